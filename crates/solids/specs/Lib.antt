@@ -1,0 +1,4 @@
+pub mod Refusals
+pub mod Solids
+pub mod Admission
+pub mod Containment
