@@ -4,6 +4,7 @@
 use Prim.Native.Nat.{ℕ, zero, suc, _+_, min}
 use mathlib.Core.Bool.{Bool, true, false, _&&_, _||_, cond}
 use mathlib.Core.List.{List, [], _∷_, _++_}
+use lib.Dec.{eqb}
 use lib.IntN.{ℤ, pos, negsuc, _+ℤ_}
 
 -- the numbers below n, in order
@@ -19,6 +20,13 @@ least m (n ∷ l) = least (min m n) l
 abbrev pub one-if : Bool → ℕ
 one-if true = 1
 one-if false = 0
+
+-- are two lists of numbers the same
+unfoldable pub same : List ℕ → List ℕ → Bool
+same [] [] = true
+same [] (n ∷ l) = false
+same (m ∷ k) [] = false
+same (m ∷ k) (n ∷ l) = eqb m n && same k l
 
 module _ {A : Type 0} where
   -- the sum of f over a list
