@@ -1,10 +1,11 @@
 -- Document 01: the call that makes a union, an intersection or a difference, with its refusals and the lent lists afterwards.
 use Prim.Native.Nat.{ℕ, _/_}
 use mathlib.Core.Bool.{Bool, _||_}
-use mathlib.Core.List.{List, [], _∷_, _++_}
-use lib.ListN.{length, drop}
+use mathlib.Core.List.{List, [], _∷_}
+use lib.ListN.{length}
 use lib.Dec.{ltb}
 use lib.Ieee.{Float}
+use Rattle.sums.specs.Lists.{onto}
 use Rattle.solids.specs.Refusals.{Verdict, accepted, refused, given, in-order}
 use Rattle.solids.specs.Solids.{Solid}
 use Rattle.solids.specs.Admission.{admission}
@@ -37,9 +38,6 @@ abbrev pub refusal : ℕ → Lent → Outcome
 refusal n l = record { answer = n; vertices = 0; triangles = 0; lent = l }
 
 -- "On success the fronts of the lent lists hold the answer, and everything behind is as before."
-abbrev pub onto : {A : Type 0} → List A → List A → List A
-onto new old = new ++ drop (length new) old
-
 abbrev pub success : Result → Lent → Outcome
 success r l =
     record {

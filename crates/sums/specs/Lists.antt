@@ -4,6 +4,7 @@
 use Prim.Native.Nat.{ℕ, zero, suc, _+_, min}
 use mathlib.Core.Bool.{Bool, true, false, _&&_, _||_, cond}
 use mathlib.Core.List.{List, [], _∷_, _++_}
+use lib.ListN.{length, drop}
 use lib.Dec.{eqb}
 use lib.IntN.{ℤ, pos, negsuc, _+ℤ_}
 
@@ -57,6 +58,10 @@ module _ {A : Type 0} where
   unfoldable pub before : (A → A → Bool) → A → List A → List A
   before eq x [] = []
   before eq x (y ∷ l) = let r = before eq x l in cond (eq x y) [] (y ∷ r)
+
+  -- a lent list with `new` in its front, and everything behind as before
+  abbrev pub onto : List A → List A → List A
+  onto new old = new ++ drop (length new) old
 
   -- the pair the other way round
   abbrev pub turned : A × A → A × A

@@ -1,0 +1,30 @@
+-- Document 01, "House file": the writer with its refusals and the lent bytes afterwards.
+use Prim.Native.Nat.{ℕ}
+use mathlib.Core.List.{List, [], _∷_, _++_, flatMap}
+use lib.ListN.{length}
+use lib.Dec.{ltb}
+use Rattle.sums.specs.Lists.{upTo, onto}
+use Rattle.solids.specs.Refusals.{Verdict, accepted, refused, given, in-order}
+use Rattle.solids.specs.Solids.{Solid, vertices, facets, vertex, corner}
+use Rattle.solids.specs.Admission.{admission}
+use Rattle.housefile.specs.declared.Record.the-variants.{Vx, Fc, En}
+use Rattle.housefile.specs.Records.{encoded}
+
+-- a solid's file: its vertices, its facets, the end
+unfoldable pub file : Solid → List ℕ
+file s =
+    flatMap (λ i. encoded (Vx (vertex s i))) (upTo (vertices s))
+    ++ (flatMap (λ f. encoded (Fc (corner s f 0) (corner s f 1) (corner s f 2))) (upTo (facets s)) ++ encoded En)
+
+pub record Writing : Type 0 where
+  pub answer : ℕ
+  pub used : ℕ
+  pub bytes : List ℕ
+
+abbrev pub writing : Verdict → List ℕ → List ℕ → Writing
+writing accepted new old = record { answer = 0; used = length new; bytes = onto new old }
+writing (refused n) new old = record { answer = n; used = 0; bytes = old }
+
+-- "The writer checks 1 to 6, then 8."
+unfoldable pub write : Solid → List ℕ → Writing
+write s lent = let new = file s in writing (in-order (admission s ∷ given 8 (ltb (length lent) (length new)) ∷ [])) new lent

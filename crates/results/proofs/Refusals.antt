@@ -1,0 +1,35 @@
+-- "An operation checks 7, then A by 1 to 6, then B by 1 to 6, then 8": what `operation` gives, refusal by refusal, whatever else is wrong.
+use mathlib.Core.Path.{_≡_, refl}
+use Prim.Native.Nat.{ℕ, suc}
+use mathlib.Core.Bool.{true, false}
+use Rattle.solids.specs.Refusals.{accepted, refused, in-order}
+use Rattle.solids.specs.Solids.{Solid}
+use Rattle.solids.specs.Admission.{admission}
+use Rattle.results.specs.declared.Operation.{Operation}
+use Rattle.results.specs.declared.Chosen.the-variants.{Known}
+use Rattle.results.specs.Inclusion.{chosen}
+use Rattle.results.specs.Triangles.{result}
+use Rattle.results.specs.Operation.{Lent, too-short, refusal, success, operate, operation}
+
+module _ (a b : Solid) (l : Lent) where
+  pub first-7 : (n : ℕ) → operation (suc (suc (suc n))) a b l ≡ refusal 7 l
+  unfolding operation
+  first-7 n = refl
+
+  module _ (op : Operation) (code : ℕ) (known : chosen code ≡ Known op) where
+    pub then-A : (n : ℕ) → admission a ≡ refused n → operation code a b l ≡ refusal n l
+    unfolding operation operate in-order
+    then-A n e = rw (known, e)
+
+    pub then-B : (n : ℕ) → admission a ≡ accepted → admission b ≡ refused n → operation code a b l ≡ refusal n l
+    unfolding operation operate in-order
+    then-B n d e = rw (known, d, e)
+
+    pub last-8 : admission a ≡ accepted → admission b ≡ accepted → too-short l (result op a b) ≡ true → operation code a b l ≡ refusal 8 l
+    unfolding operation operate in-order
+    last-8 d e h = rw (known, d, e, h)
+
+    pub else-done :
+        admission a ≡ accepted → admission b ≡ accepted → too-short l (result op a b) ≡ false → operation code a b l ≡ success (result op a b) l
+    unfolding operation operate in-order
+    else-done d e h = rw (known, d, e, h)
