@@ -17,6 +17,10 @@ unfolding mk
 split (pos n) = sym (+ℤ-idr (pos n))
 split (negsuc n) = sym (+ℤ-idl (negsuc n))
 
+pub whole : (x : ℤ) → pos (above x) -ℤ pos (below x) ≡ x
+unfolding mk
+whole x = sym (split x)
+
 pub mk-pos : (n : ℕ) → pos n ≡ mk n 0
 mk-pos n = split (pos n)
 

@@ -4,3 +4,7 @@ pub mod Tests
 pub mod UpTo
 pub mod Closed
 pub mod Signed
+pub mod Joining
+pub mod Fans
+pub mod Threes
+pub mod Numbering

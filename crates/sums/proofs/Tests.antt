@@ -2,7 +2,7 @@
 use mathlib.Core.Path.{_≡_, refl, sym, ap, _∙_, subst}
 use mathlib.Core.Logic.{_⊎_, inl, inr}
 use mathlib.Core.Bool.{Bool, true, false, not, _&&_, _||_, cond, true≢false}
-use mathlib.Core.List.{List, [], _∷_, List·Memᴰ, List·Memᴰ·head, List·Memᴰ·tail}
+use mathlib.Core.List.{List, [], _∷_, map, List·Memᴰ, List·Memᴰ·head, List·Memᴰ·tail}
 use Prim.Native.Nat.{ℕ, suc}
 use native.Mathlib.Omega.{arith}
 use lib.Dec.{T}
@@ -64,6 +64,11 @@ module _ {A : Type 0} (p : A → Bool) where
   unfolding every
   true-every [] a = refl
   true-every (x ∷ l) a = true-and (p x) (every p l) (a .0) (true-every l (a .1))
+
+  pub every-map : {B : Type 0} (f : B → A) (l : List B) → every p (map f l) ≡ every (λ x. p (f x)) l
+  unfolding every
+  every-map f [] = refl
+  every-map f (x ∷ l) = ap (λ b. p (f x) && b) (every-map f l)
 
   pub any-false : (l : List A) → any p l ≡ false → All (λ x. p x ≡ false) l
   unfolding any
