@@ -4,13 +4,13 @@ use mathlib.Core.Path.{_≡_, refl, sym, ap, ap₂, _∙_, subst}
 use mathlib.Core.Logic.{_≢_}
 use mathlib.Core.Bool.{Bool, true, false, _&&_, and-comm}
 use mathlib.Core.List.{List, [], _∷_, _++_, map, List·Memᴰ, List·Memᴰ·head, Memᴰ·append-right}
-use Prim.Native.Nat.{ℕ, _+_, _<_}
+use Prim.Native.Nat.{_+_, _<_}
 use native.Mathlib.Omega.{arith}
 use native.Mathlib.Decide.{decLt}
 use lib.Dec.{T}
 use lib.IntN.{ℤ, pos, _+ℤ_, _-ℤ_, negℤ}
 use Rattle.sums.specs.Lists.{one-if, sumOf, times, turned}
-use Rattle.sums.proofs.Integers.{split, mk-eq, lin, half-zero, pos-inj, eq-of-sub}
+use Rattle.sums.proofs.Integers.{split, mk-eq, lin, neg-sub, half-zero, pos-inj, eq-of-sub}
 use Rattle.sums.proofs.Sums.{All, all-at, all-mono, sum-append, sum-sub, sum-map, sum-neg, sum-ext-all}
 use Rattle.sums.proofs.Tests.{T-of, of-T, and-true, true-and}
 
@@ -85,15 +85,15 @@ module _ {X : Type 0} (eq : X → X → Bool) where
   turns-anti : (h : X × X) → Anti (turns h)
   turns-anti h k =
       ap₂ (λ b c. pos (one-if b) -ℤ pos (one-if c)) (and-comm (eq (h .0) (k .1)) (eq (h .1) (k .0))) (and-comm (eq (h .1) (k .1)) (eq (h .0) (k .0)))
-      ∙ flip (pos (one-if (same-half (turned h) k))) (pos (one-if (same-half h k)))
-    where
-      flip : (a b : ℤ) → a -ℤ b ≡ negℤ (b -ℤ a)
-      flip a b = rw (split a, split b) (simp lin (mk-eq _ _ _ _ (omega arith)))
+      ∙ sym (neg-sub (pos (one-if (same-half h k))) (pos (one-if (same-half (turned h) k))))
+
+  sum-turns : (h : X × X) (l : List (X × X)) → sumOf (turns h) l ≡ pos (times same-half h l) -ℤ pos (times same-half (turned h) l)
+  sum-turns h l = sum-sub (λ k. pos (one-if (same-half h k))) (λ k. pos (one-if (same-half (turned h) k))) l ∙ ap₂ _-ℤ_ (sum-times h l) (sum-times (turned h) l)
 
   pub closed-of-sums : (l : List (X × X)) → ((g : X × X → ℤ) → Anti g → sumOf g l ≡ pos 0) → Closed l
   closed-of-sums l f h =
-      pos-inj (times same-half h l) (times same-half (turned h) l) (eq-of-sub (pos (times same-half h l)) (pos (times same-half (turned h) l))
-      (ap₂ _-ℤ_ (sym (sum-times h l)) (sym (sum-times (turned h) l)) ∙ sym (sum-sub (λ k. pos (one-if (same-half h k))) (λ k. pos (one-if (same-half (turned h) k))) l) ∙ f (turns h) (turns-anti h)))
+      pos-inj (times same-half h l) (times same-half (turned h) l)
+      (eq-of-sub (pos (times same-half h l)) (pos (times same-half (turned h) l)) (sym (sum-turns h l) ∙ f (turns h) (turns-anti h)))
 
   module _ (sound : (x y : X) → T (eq x y) → x ≡ y) (self : (x : X) → T (eq x x)) where
     pub same-half-sound : (h k : X × X) → T (same-half h k) → h ≡ k
@@ -102,9 +102,12 @@ module _ {X : Type 0} (eq : X → X → Bool) where
         λ i. (sound (h .0) (k .0) (T-of (eq (h .0) (k .0)) (r .0)) i, sound (h .1) (k .1) (T-of (eq (h .1) (k .1)) (r .1)) i)
 
     pub same-half-self : (h : X × X) → T (same-half h h)
-    same-half-self h = T-of (same-half h h) (true-and (eq (h .0) (h .0)) (eq (h .1) (h .1)) (of-T (eq (h .0) (h .0)) (self (h .0))) (of-T (eq (h .1) (h .1)) (self (h .1))))
+    same-half-self h = T-of (same-half h h) (true-and (eq (h .0) (h .0)) (eq (h .1) (h .1)) (same (h .0)) (same (h .1)))
+      where
+        same : (x : X) → eq x x ≡ true
+        same x = of-T (eq x x) (self x)
 
-    -- THE LEMMA
+    -- the lemma on closed lists
     pub closed-sum : (l : List (X × X)) → Closed l → Simple l → (g : X × X → ℤ) → ((h : X × X) → h .0 ≢ h .1 → g (turned h) ≡ negℤ (g h)) → sumOf g l ≡ pos 0
     closed-sum l closed simple g anti =
         half-zero (sumOf g l)

@@ -29,22 +29,30 @@ module _ {X : Type 0} (eq : X → X → Bool) where
       same-ends : G (a, a) ≡ pos 0
       same-ends = half-zero (G (a, a)) (anti (a, a))
 
+      from-a : (q : X) → part (a, q) ≡ pos 0
+      from-a q = ap₂ (λ x y. x +ℤ (G (a, q) +ℤ (y +ℤ pos 0))) same-ends (anti (a, q)) ∙ cancel (G (a, q))
+        where
+          cancel : (x : ℤ) → pos 0 +ℤ (x +ℤ (negℤ x +ℤ pos 0)) ≡ pos 0
+          cancel x = rw (split x) (simp lin (mk-eq _ _ _ _ (omega arith)))
+
+      to-a : (p : X) → part (p, a) ≡ pos 0
+      to-a p = ap₂ (λ x y. x +ℤ (G (p, a) +ℤ (y +ℤ pos 0))) (anti (p, a)) same-ends ∙ cancel (G (p, a))
+        where
+          cancel : (x : ℤ) → negℤ x +ℤ (x +ℤ (pos 0 +ℤ pos 0)) ≡ pos 0
+          cancel x = rw (split x) (simp lin (mk-eq _ _ _ _ (omega arith)))
+
       met : (h : X × X) → not (meets a h) ≡ false → part h ≡ pos 0
       met h t = elim (or-true (eq a (h .0)) (eq a (h .1)) (not-false (meets a h) t)) [
-        | inl e ↦ ap (λ p. part (p, h .1)) (sym (sound a (h .0) (T-of (eq a (h .0)) e))) ∙ ap₂ (λ x y. x +ℤ (G (a, h .1) +ℤ (y +ℤ pos 0))) same-ends (anti (a, h .1)) ∙ first (G (a, h .1))
-        | inr e ↦ ap (λ q. part (h .0, q)) (sym (sound a (h .1) (T-of (eq a (h .1)) e))) ∙ ap₂ (λ x y. x +ℤ (G (h .0, a) +ℤ (y +ℤ pos 0))) (anti (h .0, a)) same-ends ∙ second (G (h .0, a))
+        | inl e ↦ ap (λ p. part (p, h .1)) (sym (sound a (h .0) (T-of (eq a (h .0)) e))) ∙ from-a (h .1)
+        | inr e ↦ ap (λ q. part (h .0, q)) (sym (sound a (h .1) (T-of (eq a (h .1)) e))) ∙ to-a (h .0)
       ]
-        where
-          first : (x : ℤ) → pos 0 +ℤ (x +ℤ (negℤ x +ℤ pos 0)) ≡ pos 0
-          first x = rw (split x) (simp lin (mk-eq _ _ _ _ (omega arith)))
 
-          second : (x : ℤ) → negℤ x +ℤ (x +ℤ (pos 0 +ℤ pos 0)) ≡ pos 0
-          second x = rw (split x) (simp lin (mk-eq _ _ _ _ (omega arith)))
-
-      pub fan-sum : (l : List (X × X)) → Round l → sumOf (λ h. G (a, h .0) +ℤ (G (h .0, h .1) +ℤ (G (h .1, a) +ℤ pos 0))) (keep (λ h. not (meets a h)) l) ≡ sumOf G l
+      pub fan-sum : (l : List (X × X)) → Round l
+          → sumOf (λ h. G (a, h .0) +ℤ (G (h .0, h .1) +ℤ (G (h .1, a) +ℤ pos 0))) (keep (λ h. not (meets a h)) l) ≡ sumOf G l
       fan-sum l round =
           sum-keep (λ h. not (meets a h)) part l met
-          ∙ sum-ext part (λ h. G h +ℤ (G (h .1, a) -ℤ G (h .0, a))) l (λ h. ap (λ x. x +ℤ (G h +ℤ (G (h .1, a) +ℤ pos 0))) (anti (h .0, a)) ∙ regroup (G (h .0, a)) (G h) (G (h .1, a)))
+          ∙ sum-ext part (λ h. G h +ℤ (G (h .1, a) -ℤ G (h .0, a))) l
+          (λ h. ap (λ x. x +ℤ (G h +ℤ (G (h .1, a) +ℤ pos 0))) (anti (h .0, a)) ∙ regroup (G (h .0, a)) (G h) (G (h .1, a)))
           ∙ sum-add G (λ h. G (h .1, a) -ℤ G (h .0, a)) l ∙ ap (λ z. sumOf G l +ℤ z) (round (λ p. G (p, a))) ∙ +ℤ-idr (sumOf G l)
         where
           regroup : (x y z : ℤ) → negℤ x +ℤ (y +ℤ (z +ℤ pos 0)) ≡ y +ℤ (z -ℤ x)

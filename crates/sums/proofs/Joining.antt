@@ -8,7 +8,7 @@ use lib.ListN.{length, replicate}
 use lib.IntN.{ℤ, pos, one, _+ℤ_, _-ℤ_, _*ℤ_, negℤ, zero-*ℤ, sucℤ-*ℤ, *ℤ-one, +ℤ-comm}
 use Rattle.sums.specs.Lists.{sumOf, turned, above, below}
 use Rattle.sums.proofs.Integers.{whole, split, mk-eq, lin, add-mul, neg-mul, pos-inj, eq-of-sub, above-neg, below-neg}
-use Rattle.sums.proofs.Sums.{All, all-of, all-mono, all-flatMap, flat-ext-all, sum-sub, sum-ext, sum-flatMap}
+use Rattle.sums.proofs.Sums.{All, all-of, all-mono, all-flatMap, flat-ext, sum-sub, sum-ext, sum-flatMap}
 
 -- ---- two lists of one length
 module _ {A B : Type 0} where
@@ -58,10 +58,12 @@ module _ {E X : Type 0} (name : E → X) where
 
   sum-copies : (φ : X → ℤ) (n : E → ℕ) (es : List E) → sumOf φ (copies n es) ≡ sumOf (λ e. pos (n e) *ℤ φ (name e)) es
   sum-copies φ n es =
-      sum-flatMap φ (λ e. replicate (n e) (name e)) es ∙ sum-ext (λ e. sumOf φ (replicate (n e) (name e))) (λ e. pos (n e) *ℤ φ (name e)) es (λ e. sum-replicate φ (n e) (name e))
+      sum-flatMap φ (λ e. replicate (n e) (name e)) es
+      ∙ sum-ext (λ e. sumOf φ (replicate (n e) (name e))) (λ e. pos (n e) *ℤ φ (name e)) es (λ e. sum-replicate φ (n e) (name e))
 
   pub all-copies : (p : X → Type 0) (n : E → ℕ) (es : List E) → ((e : E) → List·Memᴰ e es → 0 < n e → p (name e)) → All p (copies n es)
-  all-copies p n es f = all-flatMap p (λ e. replicate (n e) (name e)) es (all-of (λ e. All p (replicate (n e) (name e))) es (λ e m. all-replicate p (n e) (name e) (f e m)))
+  all-copies p n es f =
+      all-flatMap p (λ e. replicate (n e) (name e)) es (all-of (λ e. All p (replicate (n e) (name e))) es (λ e m. all-replicate p (n e) (name e) (f e m)))
 
   module _ (count : E → ℤ) where
     abbrev pub starts : List E → List X
@@ -80,26 +82,34 @@ module _ {E X : Type 0} (name : E → X) where
         ∙ sum-ext (λ e. pos (above (count e)) *ℤ φ (name e) -ℤ pos (below (count e)) *ℤ φ (name e)) (λ e. count e *ℤ φ (name e)) es (λ e. parts (count e) (φ (name e)))
       where
         parts : (n y : ℤ) → pos (above n) *ℤ y -ℤ pos (below n) *ℤ y ≡ n *ℤ y
-        parts n y = ap (λ z. pos (above n) *ℤ y +ℤ z) (sym (neg-mul (pos (below n)) y)) ∙ sym (add-mul (pos (above n)) (negℤ (pos (below n))) y) ∙ ap (λ z. z *ℤ y) (whole n)
+        parts n y =
+            ap (λ z. pos (above n) *ℤ y +ℤ z) (sym (neg-mul (pos (below n)) y))
+            ∙ sym (add-mul (pos (above n)) (negℤ (pos (below n))) y) ∙ ap (λ z. z *ℤ y) (whole n)
 
     pub same-length : (es : List E) → sumOf count es ≡ pos 0 → length (starts es) ≡ length (stops es)
     same-length es z =
         sym (pos-inj (length (stops es)) (length (starts es)) (eq-of-sub (pos (length (stops es))) (pos (length (starts es)))
-        (ap₂ _-ℤ_ (sym (sum-one (stops es))) (sym (sum-one (starts es))) ∙ sum-ends (λ v. one) es ∙ sum-ext (λ e. count e *ℤ one) count es (λ e. *ℤ-one (count e)) ∙ z)))
+        (ap₂ _-ℤ_ (sym (sum-one (stops es))) (sym (sum-one (starts es)))
+        ∙ sum-ends (λ v. one) es ∙ sum-ext (λ e. count e *ℤ one) count es (λ e. *ℤ-one (count e)) ∙ z)))
 
     -- the pieces come to each name, less those that leave it, as often as its count says
-    pub join-sum : (φ : X → ℤ) (es : List E) → sumOf count es ≡ pos 0 → sumOf (λ (h : X × X). φ (h .1) -ℤ φ (h .0)) (pieces es) ≡ sumOf (λ e. count e *ℤ φ (name e)) es
+    pub join-sum : (φ : X → ℤ) (es : List E) → sumOf count es ≡ pos 0
+        → sumOf (λ (h : X × X). φ (h .1) -ℤ φ (h .0)) (pieces es) ≡ sumOf (λ e. count e *ℤ φ (name e)) es
     join-sum φ es z = sum-zip φ (starts es) (stops es) (same-length es z) ∙ sum-ends φ es
 
     -- what holds from each element with starts to each with stops holds of each piece
-    pub all-join : (Q : X × X → Type 0) (es : List E) → ((e d : E) → List·Memᴰ e es → List·Memᴰ d es → 0 < below (count e) → 0 < above (count d) → Q (name e, name d)) → All Q (pieces es)
+    pub all-join : (Q : X × X → Type 0) (es : List E)
+        → ((e d : E) → List·Memᴰ e es → List·Memᴰ d es → 0 < below (count e) → 0 < above (count d) → Q (name e, name d)) → All Q (pieces es)
     all-join Q es f =
         all-zip Q (starts es) (stops es) (all-copies (λ v. All (λ w. Q (v, w)) (stops es)) (λ e. below (count e)) es
         (λ e i m. all-copies (λ w. Q (name e, w)) (λ e. above (count e)) es (λ d j n. f e d i j m n)))
 
   -- with the counts negated, the pieces turned round
   pub turned-pieces : (count : E → ℤ) (es : List E) → map turned (pieces count es) ≡ pieces (λ e. negℤ (count e)) es
-  turned-pieces count es = turned-zip (starts count es) (stops count es) ∙ ap₂ zip (same (λ e. above (count e)) (λ e. below (negℤ (count e))) (λ e. sym (below-neg (count e)))) (same (λ e. below (count e)) (λ e. above (negℤ (count e))) (λ e. sym (above-neg (count e))))
+  turned-pieces count es =
+      turned-zip (starts count es) (stops count es)
+      ∙ ap₂ zip (same (λ e. above (count e)) (λ e. below (negℤ (count e))) (λ e. sym (below-neg (count e))))
+      (same (λ e. below (count e)) (λ e. above (negℤ (count e))) (λ e. sym (above-neg (count e))))
     where
       same : (m n : E → ℕ) → ((e : E) → m e ≡ n e) → copies m es ≡ copies n es
-      same m n h = flat-ext-all (λ e. replicate (m e) (name e)) (λ e. replicate (n e) (name e)) es (all-of (λ e. replicate (m e) (name e) ≡ replicate (n e) (name e)) es (λ e i. ap (λ k. replicate k (name e)) (h e)))
+      same m n h = flat-ext (λ e. replicate (m e) (name e)) (λ e. replicate (n e) (name e)) es (λ e. ap (λ k. replicate k (name e)) (h e))

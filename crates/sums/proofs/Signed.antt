@@ -7,7 +7,7 @@ use mathlib.Core.List.{List, [], _∷_, map}
 use native.Mathlib.Omega.{arith}
 use lib.IntN.{ℤ, pos, _+ℤ_, _-ℤ_, _*ℤ_, negℤ, negℤ-+ℤ, negℤ-negℤ}
 use Rattle.sums.specs.Lists.{sumOf, turned}
-use Rattle.sums.proofs.Integers.{split, mk-eq, lin, neg-mul, mul-neg}
+use Rattle.sums.proofs.Integers.{split, mk-eq, lin, neg-sub, neg-mul, mul-neg}
 use Rattle.sums.proofs.Sums.{sum-add, sum-neg, sum-mul, sum-ext, sum-map, sum-swap}
 use Rattle.sums.proofs.Closed.{Anti}
 
@@ -39,9 +39,6 @@ sign-sign : (b c : Bool) (n : ℤ) → sign b (sign c n) ≡ sign c (sign b n)
 sign-sign true c n = refl
 sign-sign false true n = refl
 sign-sign false false n = refl
-
-sub-turned : (a b : ℤ) → negℤ (a -ℤ b) ≡ b -ℤ a
-sub-turned a b = rw (split a, split b) (simp lin (mk-eq _ _ _ _ (omega arith)))
 
 module _ {X : Type 0} (up : X × X → Bool) where
   abbrev pub edge : X × X → X × X
@@ -100,7 +97,7 @@ module _ {X : Type 0} (up : X × X → Bool) where
     where
       go : (b : Bool) → sign b (φ (cond b h (turned h) .1) -ℤ φ (cond b h (turned h) .0)) ≡ φ (h .1) -ℤ φ (h .0)
       go true = refl
-      go false = sub-turned (φ (h .0)) (φ (h .1))
+      go false = neg-sub (φ (h .0)) (φ (h .1))
 
   module _ (flip : (h : X × X) → h .0 ≢ h .1 → up (turned h) ≡ not (up h)) where
     pub edge-turned : (h : X × X) → h .0 ≢ h .1 → edge up (turned h) ≡ edge up h
@@ -141,7 +138,7 @@ module _ {X : Type 0} (up : X × X → Bool) where
 
   pub around-diff′ : (φ : X → ℤ) (l : List (X × X)) → Round l → around up (λ e. φ (e .0) -ℤ φ (e .1)) l ≡ pos 0
   around-diff′ φ l round =
-      around-ext (λ e. φ (e .0) -ℤ φ (e .1)) (λ e. negℤ (φ (e .1) -ℤ φ (e .0))) l (λ e. sym (sub-turned (φ (e .1)) (φ (e .0))))
+      around-ext (λ e. φ (e .0) -ℤ φ (e .1)) (λ e. negℤ (φ (e .1) -ℤ φ (e .0))) l (λ e. sym (neg-sub (φ (e .1)) (φ (e .0))))
       ∙ around-neg (λ e. φ (e .1) -ℤ φ (e .0)) l ∙ ap negℤ (around-diff φ l round)
 
 -- ---- over the half-edges of two solids

@@ -1,14 +1,14 @@
 -- Lists made of threes, as a list of corners is, three to a facet: the places 3 * i, 3 * i + 1, 3 * i + 2 hold the i-th three,
 -- so that what runs over the numbers of the threes runs over the threes themselves.
-use mathlib.Core.Path.{_≡_, refl, sym, ap, ap₂, _∙_, subst}
+use mathlib.Core.Path.{_≡_, refl, sym, ap, _∙_, subst}
 use mathlib.Core.Bool.{Bool}
-use mathlib.Core.List.{List, [], _∷_, _++_, map, flatMap, map-map}
+use mathlib.Core.List.{List, [], _∷_, map, flatMap, map-map}
 use Prim.Native.Nat.{ℕ, zero, suc, _+_, _*_, _/_, _%_, _<_}
 use native.Mathlib.Omega.{arith}
 use lib.ListN.{length, getD}
 use lib.IntN.{ℤ}
 use Rattle.sums.specs.Lists.{upTo, sumOf, every}
-use Rattle.sums.proofs.Sums.{All, all-of, all-map-of, all-of-map, map-ext-all, flat-map, sum-map}
+use Rattle.sums.proofs.Sums.{All, all-map-of, all-of-map, map-ext, flat-map, sum-map}
 use Rattle.sums.proofs.Tests.{every-map}
 use Rattle.sums.proofs.UpTo.{upTo-first}
 
@@ -60,7 +60,7 @@ module _ {A B : Type 0} (f g h : B → A) where
   in-turn [] d = refl
   in-turn (t ∷ ts) d =
       ap (map at) (upTo-first (length ts))
-      ∙ ap (λ r. three t ∷ r) (map-map at suc (upTo (length ts)) ∙ map-ext-all (λ i. at (suc i)) at′ (upTo (length ts)) (all-of (λ i. at (suc i) ≡ at′ i) (upTo (length ts)) (λ i m. move i)) ∙ in-turn ts d)
+      ∙ ap (λ r. three t ∷ r) (map-map at suc (upTo (length ts)) ∙ map-ext (λ i. at (suc i)) at′ (upTo (length ts)) move ∙ in-turn ts d)
     where
       at : ℕ → A × A × A
       at = three-at (t ∷ ts) d (λ i. 3 * i + 0)
@@ -82,27 +82,31 @@ module _ {A B : Type 0} (f g h : B → A) where
     all-in-turn : map at numbers ≡ map three ts
     all-in-turn =
         ap (λ n. map at (upTo n)) (third-threes ts)
-        ∙ map-ext-all at (three-at ts d (λ i. 3 * i + 0)) (upTo (length ts)) (all-of (λ i. at i ≡ three-at ts d (λ i. 3 * i + 0) i) (upTo (length ts)) (λ i m. place i)) ∙ in-turn ts d
+        ∙ map-ext at (three-at ts d (λ i. 3 * i + 0)) (upTo (length ts)) place ∙ in-turn ts d
       where
         place : (i : ℕ) → at i ≡ three-at ts d (λ i. 3 * i + 0) i
         place i = ap (λ n. three-at ts d (λ i. n) i) (right i ∙ omega arith)
 
     pub flat-threes : {C : Type 0} (F : A → A → A → List C)
-        → flatMap (λ i. F (getD (threes ts) (first i) d) (getD (threes ts) (3 * i + 1) d) (getD (threes ts) (3 * i + 2) d)) (upTo (length (threes ts) / 3)) ≡ flatMap (λ t. F (f t) (g t) (h t)) ts
+        → flatMap (λ i. F (getD (threes ts) (first i) d) (getD (threes ts) (3 * i + 1) d) (getD (threes ts) (3 * i + 2) d)) (upTo (length (threes ts) / 3))
+        ≡ flatMap (λ t. F (f t) (g t) (h t)) ts
     flat-threes F = sym (flat-map (of-three F) at numbers) ∙ ap (flatMap (of-three F)) all-in-turn ∙ flat-map (of-three F) three ts
 
     pub sum-threes : (F : A → A → A → ℤ)
-        → sumOf (λ i. F (getD (threes ts) (first i) d) (getD (threes ts) (3 * i + 1) d) (getD (threes ts) (3 * i + 2) d)) (upTo (length (threes ts) / 3)) ≡ sumOf (λ t. F (f t) (g t) (h t)) ts
+        → sumOf (λ i. F (getD (threes ts) (first i) d) (getD (threes ts) (3 * i + 1) d) (getD (threes ts) (3 * i + 2) d)) (upTo (length (threes ts) / 3))
+        ≡ sumOf (λ t. F (f t) (g t) (h t)) ts
     sum-threes F = sym (sum-map (of-three F) at numbers) ∙ ap (sumOf (of-three F)) all-in-turn ∙ sum-map (of-three F) three ts
 
     pub every-threes : (F : A → A → A → Bool)
-        → every (λ i. F (getD (threes ts) (first i) d) (getD (threes ts) (3 * i + 1) d) (getD (threes ts) (3 * i + 2) d)) (upTo (length (threes ts) / 3)) ≡ every (λ t. F (f t) (g t) (h t)) ts
+        → every (λ i. F (getD (threes ts) (first i) d) (getD (threes ts) (3 * i + 1) d) (getD (threes ts) (3 * i + 2) d)) (upTo (length (threes ts) / 3))
+        ≡ every (λ t. F (f t) (g t) (h t)) ts
     every-threes F = sym (every-map (of-three F) at numbers) ∙ ap (every (of-three F)) all-in-turn ∙ every-map (of-three F) three ts
 
     pub all-threes : (P : A → A → A → Type 0) → All (λ t. P (f t) (g t) (h t)) ts
         → All (λ i. P (getD (threes ts) (first i) d) (getD (threes ts) (3 * i + 1) d) (getD (threes ts) (3 * i + 2) d)) (upTo (length (threes ts) / 3))
     all-threes P a = all-of-map (of-three P) at numbers (subst (All (of-three P)) (sym all-in-turn) (all-map-of (of-three P) three ts a))
 
-    pub threes-all : (P : A → A → A → Type 0) → All (λ i. P (getD (threes ts) (first i) d) (getD (threes ts) (3 * i + 1) d) (getD (threes ts) (3 * i + 2) d)) (upTo (length (threes ts) / 3))
+    pub threes-all : (P : A → A → A → Type 0)
+        → All (λ i. P (getD (threes ts) (first i) d) (getD (threes ts) (3 * i + 1) d) (getD (threes ts) (3 * i + 2) d)) (upTo (length (threes ts) / 3))
         → All (λ t. P (f t) (g t) (h t)) ts
     threes-all P a = all-of-map (of-three P) three ts (subst (All (of-three P)) all-in-turn (all-map-of (of-three P) at numbers a))
