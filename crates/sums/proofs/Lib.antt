@@ -1,0 +1,4 @@
+pub mod Integers
+pub mod Sums
+pub mod Tests
+pub mod UpTo

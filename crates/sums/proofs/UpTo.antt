@@ -1,0 +1,1 @@
+-- The numbers below n; lists in which nothing stands twice.
