@@ -1,0 +1,3 @@
+pub mod Around
+pub mod Table
+pub mod Lower
