@@ -1,6 +1,6 @@
 -- Table 1 of 000 as equations on counts, for all points, edges and facets: each formula of document 01 as it is written there.
 -- A formula holds of S and of the counts alike, as both change their sign with the crossing; so it is proved once, for any such φ.
-use mathlib.Core.Path.{_≡_, refl, sym, ap, ap₂, _∙_}
+use mathlib.Core.Path.{_≡_, refl, ap, ap₂, _∙_}
 use Prim.Native.Nat.{zero, suc}
 use native.Mathlib.Omega.{arith}
 use mathlib.Core.Bool.{Bool, true, false, cond}
@@ -18,7 +18,7 @@ use Rattle.crossings.specs.declared.Facet.{Facet}
 use Rattle.crossings.specs.declared.Crossing.{Crossing}
 use Rattle.crossings.specs.declared.Crossing.the-variants.{Miss, Cross}
 use Rattle.crossings.specs.Crossings.{count, S, against, crossing, paired, halves, vv, ve, ev, vf, fv, ee, ef, fe, lower-ve, lower-ev, lower-vf, lower-fv, lower-ee, lower-ef, lower-fe}
-use Rattle.crossings.proofs.Around.{Odd, around, around-ext, around-add, around-neg, around-sub, around-ends, around-swap, sum-halves}
+use Rattle.crossings.proofs.Around.{Odd, around, around-ext, around-neg, sum-halves}
 
 -- ---- the count, S, and the crossing turned against
 pub count-crossing : (k : Axis) (n : ℤ) (cs : List Crossing) → count (crossing k n cs) ≡ n
