@@ -1,0 +1,7 @@
+pub mod Around
+pub mod Table
+pub mod Lower
+pub mod Facets
+pub mod Each
+pub mod Kept
+pub mod Sizes

@@ -1,0 +1,138 @@
+-- Theorem 1 of 000, for all points, edges and facets, whatever their numbers are: the lower counts of each pairing, with the signs of its
+-- formula, add up to 0; so a pairing whose count is not 0 has among its lower pairings a plus and a minus, from which its points are taken.
+use mathlib.Core.Path.{_≡_, refl, sym, ap, ap₂, _∙_}
+use mathlib.Core.Logic.{_≢_}
+use native.Mathlib.Omega.{arith}
+use mathlib.Core.Bool.{Bool, true, false, cond}
+use mathlib.Core.List.{List, [], _∷_}
+use lib.IntN.{ℤ, pos, negℤ, _+ℤ_, _-ℤ_, +ℤ-invr}
+use Rattle.sums.specs.Lists.{sumOf}
+use Rattle.sums.proofs.Integers.{split, mk-eq, lin, eq-of-sub}
+use Rattle.sums.proofs.Sums.{sum-sub}
+use Rattle.sums.proofs.Tests.{not-false}
+use Rattle.points.specs.declared.Point.{Point}
+use Rattle.points.specs.declared.Axis.{Axis}
+use Rattle.points.specs.declared.Axis.the-variants.{X, Y, Z}
+use Rattle.points.specs.Points.{at-least}
+use Rattle.crossings.specs.declared.Edge.{Edge}
+use Rattle.crossings.specs.declared.Facet.{Facet}
+use Rattle.crossings.specs.declared.Crossing.{Crossing}
+use Rattle.crossings.specs.declared.Crossing.the-variants.{Miss, Cross}
+use Rattle.crossings.specs.Crossings.{count, S, lies, first, paired, vv, ve, ev, vf, fv, ee, ef, fe, lower-ve, lower-ev, lower-vf, lower-fv, lower-ee, lower-ef, lower-fe}
+use Rattle.crossings.proofs.Around.{around, around-ext, around-ends, around-ends-turned, around-but-ends}
+use Rattle.crossings.proofs.Table.{count-paired, count-against, table-vf, table-fv, table-ee, table-ef, table-fe, count-ve, count-ev, count-vf, count-fv, count-ee}
+
+-- ---- what is not 0 has a crossing that gives it
+there : (k : Axis) (side : Bool) (φ : Crossing → ℤ) → ((c : Crossing) → lies k side c ≡ false → φ c ≡ pos 0) → (cs : List Crossing) → sumOf φ cs ≢ pos 0 → lies k side (first k side cs) ≡ true
+unfolding sumOf first
+there k side φ z [] h = absurd (h refl)
+there k side φ z (c ∷ cs) h = go (lies k side c) refl (there k side φ z cs)
+  where
+    go : (b : Bool) → lies k side c ≡ b → (sumOf φ cs ≢ pos 0 → lies k side (first k side cs) ≡ true) → lies k side (cond b c (first k side cs)) ≡ true
+    go true e ih = e
+    go false e ih = ih (λ i. h (rw (z c e, i)))
+
+-- S is 0 where it is not plus, and the rest of the count is 0 where it is not minus
+not-plus : (k : Axis) (c : Crossing) → lies k true c ≡ false → S k c ≡ pos 0
+unfolding lies S
+not-plus k Miss e = refl
+not-plus k (Cross n w) e = rw e
+
+not-minus : (k : Axis) (c : Crossing) → lies k false c ≡ false → count c -ℤ S k c ≡ pos 0
+unfolding lies S
+not-minus k Miss e = refl
+not-minus k (Cross n w) e = rw (not-false (at-least k w) e) (+ℤ-invr n)
+
+-- ---- Theorem 1
+-- There are both a plus and a minus among these lower pairings: the first of each lies as it should.
+pub record Both (k : Axis) (cs : List Crossing) : Type 0 where
+  pub plus : lies k true (first k true cs) ≡ true
+  pub minus : lies k false (first k false cs) ≡ true
+
+module _ (k : Axis) (cs : List Crossing) (zero : sumOf count cs ≡ pos 0) where
+  pub both-of-sum : sumOf (S k) cs ≢ pos 0 → Both k cs
+  both-of-sum h =
+      record {
+        plus = there k true (S k) (not-plus k) cs h;
+        minus = there k false (λ c. count c -ℤ S k c) (not-minus k) cs (λ i. h (sym (eq-of-sub (sumOf count cs) (sumOf (S k) cs) (sym (sum-sub count (S k) cs) ∙ i)) ∙ zero));
+      }
+
+  pub both-paired : count (paired k cs) ≢ pos 0 → Both k cs
+  both-paired h = both-of-sum (λ i. h (count-paired k cs ∙ i))
+
+-- ---- the lower counts add up to 0
+-- in two edges' counts, what hangs on the ends of one edge cancels round a facet that has it
+around-ee-B : (e : Edge) (f : Facet) → around (λ h. count (ee e h)) f ≡ around (λ h. S Y (ve (e .end) h)) f -ℤ around (λ h. S Y (ve (e .start) h)) f
+around-ee-B e f = around-ext _ _ (count-ee e) f ∙ around-but-ends (λ h. S Y (ve (e .end) h)) (λ h. S Y (ve (e .start) h)) (λ p. S Y (ev e p)) f
+
+around-ee-A : (f : Facet) (e : Edge) → around (λ h. count (ee h e)) f ≡ around (λ h. S Y (ev h (e .end))) f -ℤ around (λ h. S Y (ev h (e .start))) f
+around-ee-A f e =
+    around-ext _ _ (λ h. count-ee h e ∙ law (S Y (ve (h .end) e)) (S Y (ve (h .start) e)) (S Y (ev h (e .end))) (S Y (ev h (e .start)))) f
+    ∙ around-but-ends (λ h. S Y (ev h (e .end))) (λ h. S Y (ev h (e .start))) (λ p. S Y (ve p e)) f
+  where
+    law : (a b c d : ℤ) → a -ℤ b +ℤ c -ℤ d ≡ c -ℤ d +ℤ a -ℤ b
+    law a b c d = rw (split a, split b, split c, split d) (simp lin (mk-eq _ _ _ _ (omega arith)))
+
+pub zero-ve : (v : Point) (e : Edge) → sumOf count (lower-ve v e) ≡ pos 0
+unfolding sumOf
+zero-ve v e = refl
+
+pub zero-ev : (e : Edge) (v : Point) → sumOf count (lower-ev e v) ≡ pos 0
+unfolding sumOf
+zero-ev e v = refl
+
+pub zero-vf : (v : Point) (f : Facet) → sumOf count (lower-vf v f) ≡ pos 0
+zero-vf v f = table-vf count count-against v f ∙ ap negℤ (around-ext _ _ (count-ve v) f ∙ around-ends (λ p. S X (vv v p)) f)
+
+pub zero-fv : (f : Facet) (v : Point) → sumOf count (lower-fv f v) ≡ pos 0
+zero-fv f v = table-fv count count-against f v ∙ around-ext _ _ (λ h. count-ev h v) f ∙ around-ends-turned (λ p. S X (vv p v)) f
+
+pub zero-ee : (a b : Edge) → sumOf count (lower-ee a b) ≡ pos 0
+zero-ee a b = table-ee count count-against a b ∙ simp (count-ve, count-ev) (law (S X (vv (a .start) (b .start))) (S X (vv (a .start) (b .end))) (S X (vv (a .end) (b .start))) (S X (vv (a .end) (b .end))))
+  where
+    law : (ss se es ee : ℤ) → (ee -ℤ es) -ℤ (se -ℤ ss) +ℤ (se -ℤ ee) -ℤ (ss -ℤ es) ≡ pos 0
+    law ss se es ee = rw (split ss, split se, split es, split ee) (simp lin (mk-eq _ _ _ _ (omega arith)))
+
+pub zero-ef : (e : Edge) (f : Facet) → sumOf count (lower-ef e f) ≡ pos 0
+zero-ef e f =
+    table-ef count count-against e f
+    ∙ ap₂ _-ℤ_ (ap₂ _-ℤ_ (count-vf (e .start) f) (count-vf (e .end) f)) (around-ee-B e f)
+    ∙ law (around (λ h. S Y (ve (e .start) h)) f) (around (λ h. S Y (ve (e .end) h)) f)
+  where
+    law : (s e : ℤ) → negℤ s -ℤ negℤ e -ℤ (e -ℤ s) ≡ pos 0
+    law s e = rw (split s, split e) (simp lin (mk-eq _ _ _ _ (omega arith)))
+
+pub zero-fe : (f : Facet) (e : Edge) → sumOf count (lower-fe f e) ≡ pos 0
+zero-fe f e =
+    table-fe count count-against f e
+    ∙ ap₂ _-ℤ_ (ap₂ _-ℤ_ (count-fv f (e .end)) (count-fv f (e .start))) (around-ee-A f e)
+    ∙ +ℤ-invr (around (λ h. S Y (ev h (e .end))) f -ℤ around (λ h. S Y (ev h (e .start))) f)
+
+-- ---- so both are there
+pub both-ve : (v : Point) (e : Edge) → count (ve v e) ≢ pos 0 → Both X (lower-ve v e)
+unfolding ve
+both-ve v e = both-paired X (lower-ve v e) (zero-ve v e)
+
+pub both-ev : (e : Edge) (v : Point) → count (ev e v) ≢ pos 0 → Both X (lower-ev e v)
+unfolding ev
+both-ev e v = both-paired X (lower-ev e v) (zero-ev e v)
+
+pub both-vf : (v : Point) (f : Facet) → count (vf v f) ≢ pos 0 → Both Y (lower-vf v f)
+unfolding vf
+both-vf v f = both-paired Y (lower-vf v f) (zero-vf v f)
+
+pub both-fv : (f : Facet) (v : Point) → count (fv f v) ≢ pos 0 → Both Y (lower-fv f v)
+unfolding fv
+both-fv f v = both-paired Y (lower-fv f v) (zero-fv f v)
+
+pub both-ee : (a b : Edge) → count (ee a b) ≢ pos 0 → Both Y (lower-ee a b)
+unfolding ee
+both-ee a b = both-paired Y (lower-ee a b) (zero-ee a b)
+
+pub both-ef : (e : Edge) (f : Facet) → count (ef e f) ≢ pos 0 → Both Z (lower-ef e f)
+unfolding ef
+both-ef e f = both-paired Z (lower-ef e f) (zero-ef e f)
+
+pub both-fe : (f : Facet) (e : Edge) → count (fe f e) ≢ pos 0 → Both Z (lower-fe f e)
+unfolding fe
+both-fe f e = both-paired Z (lower-fe f e) (zero-fe f e)
