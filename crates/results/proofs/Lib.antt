@@ -1,2 +1,4 @@
 pub mod Refusals
 pub mod Adding
+pub mod Balance
+pub mod Closed
