@@ -2,3 +2,4 @@ pub mod Refusals
 pub mod Adding
 pub mod Balance
 pub mod Closed
+pub mod Limit
