@@ -1,0 +1,2 @@
+pub mod LowerPoints
+pub mod Robust
