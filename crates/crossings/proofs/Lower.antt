@@ -23,7 +23,8 @@ use Rattle.crossings.proofs.Around.{around, around-ext, around-ends, ar
 use Rattle.crossings.proofs.Table.{count-paired, count-against, table-vf, table-fv, table-ee, table-ef, table-fe, count-ve, count-ev, count-vf, count-fv, count-ee}
 
 -- ---- what is not 0 has a crossing that gives it
-there : (k : Axis) (side : Bool) (φ : Crossing → ℤ) → ((c : Crossing) → lies k side c ≡ false → φ c ≡ pos 0) → (cs : List Crossing) → sumOf φ cs ≢ pos 0 → lies k side (first k side cs) ≡ true
+there : (k : Axis) (side : Bool) (φ : Crossing → ℤ) → ((c : Crossing) → lies k side c ≡ false → φ c ≡ pos 0) → (cs : List Crossing) → sumOf φ cs ≢ pos 0
+    → lies k side (first k side cs) ≡ true
 unfolding sumOf first
 there k side φ z [] h = absurd (h refl)
 there k side φ z (c ∷ cs) h = go (lies k side c) refl (there k side φ z cs)
@@ -49,12 +50,12 @@ pub record Both (k : Axis) (cs : List Crossing) : Type 0 where
   pub plus : lies k true (first k true cs) ≡ true
   pub minus : lies k false (first k false cs) ≡ true
 
-module _ (k : Axis) (cs : List Crossing) (zero : sumOf count cs ≡ pos 0) where
+module _ (k : Axis) (cs : List Crossing) (z : sumOf count cs ≡ pos 0) where
   pub both-of-sum : sumOf (S k) cs ≢ pos 0 → Both k cs
   both-of-sum h =
       record {
         plus = there k true (S k) (not-plus k) cs h;
-        minus = there k false (λ c. count c -ℤ S k c) (not-minus k) cs (λ i. h (sym (eq-of-sub (sumOf count cs) (sumOf (S k) cs) (sym (sum-sub count (S k) cs) ∙ i)) ∙ zero));
+        minus = there k false (λ c. count c -ℤ S k c) (not-minus k) cs (λ i. h (sym (eq-of-sub _ _ (sym (sum-sub count (S k) cs) ∙ i)) ∙ z));
       }
 
   pub both-paired : count (paired k cs) ≢ pos 0 → Both k cs
@@ -88,7 +89,9 @@ pub zero-fv : (f : Facet) (v : Point) → sumOf count (lower-fv f v) ≡ pos 0
 zero-fv f v = table-fv count count-against f v ∙ around-ext _ _ (λ h. count-ev h v) f ∙ around-ends-turned (λ p. S X (vv p v)) f
 
 pub zero-ee : (a b : Edge) → sumOf count (lower-ee a b) ≡ pos 0
-zero-ee a b = table-ee count count-against a b ∙ simp (count-ve, count-ev) (law (S X (vv (a .start) (b .start))) (S X (vv (a .start) (b .end))) (S X (vv (a .end) (b .start))) (S X (vv (a .end) (b .end))))
+zero-ee a b =
+    table-ee count count-against a b
+    ∙ simp (count-ve, count-ev) (law (S X (vv (a .start) (b .start))) (S X (vv (a .start) (b .end))) (S X (vv (a .end) (b .start))) (S X (vv (a .end) (b .end))))
   where
     law : (ss se es ee : ℤ) → (ee -ℤ es) -ℤ (se -ℤ ss) +ℤ (se -ℤ ee) -ℤ (ss -ℤ es) ≡ pos 0
     law ss se es ee = rw (split ss, split se, split es, split ee) (simp lin (mk-eq _ _ _ _ (omega arith)))
