@@ -17,18 +17,22 @@ unfolding mk
 split (pos n) = sym (+ℤ-idr (pos n))
 split (negsuc n) = sym (+ℤ-idl (negsuc n))
 
+pub whole : (x : ℤ) → pos (above x) -ℤ pos (below x) ≡ x
+unfolding mk
+whole x = sym (split x)
+
 pub mk-pos : (n : ℕ) → pos n ≡ mk n 0
 mk-pos n = split (pos n)
 
 pub mk-negsuc : (n : ℕ) → negsuc n ≡ mk 0 (suc n)
 mk-negsuc n = split (negsuc n)
 
+pub regroup : (a b c d : ℤ) → (a +ℤ b) +ℤ (c +ℤ d) ≡ (a +ℤ c) +ℤ (b +ℤ d)
+regroup a b c d = +ℤ-assoc a b (c +ℤ d) ∙ ap (λ x. a +ℤ x) (sym (+ℤ-assoc b c d) ∙ ap (λ x. x +ℤ d) (+ℤ-comm b c) ∙ +ℤ-assoc c b d) ∙ sym (+ℤ-assoc a c (b +ℤ d))
+
 pub mk-add : (a b c d : ℕ) → mk a b +ℤ mk c d ≡ mk (a + c) (b + d)
 unfolding mk
 mk-add a b c d = regroup (pos a) (negℤ (pos b)) (pos c) (negℤ (pos d)) ∙ ap (λ x. pos (a + c) +ℤ x) (sym (negℤ-+ℤ (pos b) (pos d)))
-  where
-    regroup : (a b c d : ℤ) → (a +ℤ b) +ℤ (c +ℤ d) ≡ (a +ℤ c) +ℤ (b +ℤ d)
-    regroup a b c d = +ℤ-assoc a b (c +ℤ d) ∙ ap (λ x. a +ℤ x) (sym (+ℤ-assoc b c d) ∙ ap (λ x. x +ℤ d) (+ℤ-comm b c) ∙ +ℤ-assoc c b d) ∙ sym (+ℤ-assoc a c (b +ℤ d))
 
 pub mk-neg : (a b : ℕ) → negℤ (mk a b) ≡ mk b a
 unfolding mk
@@ -59,6 +63,9 @@ eq-of-sub x y e = sym (-ℤ-+ℤ-cancel x y) ∙ ap (λ z. z +ℤ y) e ∙ +ℤ-
 
 pub neg-of-add : (x y : ℤ) → x +ℤ y ≡ pos 0 → y ≡ negℤ x
 neg-of-add x y e = sym (+ℤ-negℤ-cancel y x) ∙ ap (λ z. z -ℤ x) (+ℤ-comm y x ∙ e) ∙ +ℤ-idl (negℤ x)
+
+pub neg-sub : (x y : ℤ) → negℤ (x -ℤ y) ≡ y -ℤ x
+neg-sub x y = rw (split x, split y) (simp lin (mk-eq _ _ _ _ (omega arith)))
 
 pub half-zero : (x : ℤ) → x ≡ negℤ x → x ≡ pos 0
 half-zero x e = let d = mk-inj _ _ _ _ (simp lin at (rw (split x) at e)) in rw (split x) (simp lin (mk-eq _ _ _ _ (omega arith)))

@@ -2,3 +2,9 @@ pub mod Integers
 pub mod Sums
 pub mod Tests
 pub mod UpTo
+pub mod Closed
+pub mod Signed
+pub mod Joining
+pub mod Fans
+pub mod Threes
+pub mod Numbering

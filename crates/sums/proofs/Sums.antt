@@ -8,7 +8,7 @@ use native.Mathlib.Omega.{arith}
 use lib.ListN.{length}
 use lib.IntN.{ℤ, pos, _+ℤ_, _-ℤ_, _*ℤ_, negℤ, negℤ-+ℤ, +ℤ-idl, +ℤ-idr, +ℤ-assoc, *ℤ-zero}
 use Rattle.sums.specs.Lists.{sumOf, keep}
-use Rattle.sums.proofs.Integers.{split, mk-eq, lin, mul-add, Bnd, bnd-add, bnd-zero}
+use Rattle.sums.proofs.Integers.{regroup, mul-add, Bnd, bnd-add, bnd-zero}
 
 -- ---- what holds of every element
 abbrev pub All : {A : Type 0} → (A → Type 0) → List A → Type 0
@@ -51,10 +51,16 @@ module _ {A B : Type 0} where
   map-ext-all f g [] h = refl
   map-ext-all f g (x ∷ l) h = ap₂ _∷_ (h .0) (map-ext-all f g l (h .1))
 
+  pub map-ext : (f g : A → B) (l : List A) → ((x : A) → f x ≡ g x) → map f l ≡ map g l
+  map-ext f g l h = map-ext-all f g l (all-of (λ x. f x ≡ g x) l (λ x m. h x))
+
   pub flat-ext-all : (f g : A → List B) (l : List A) → All (λ x. f x ≡ g x) l → flatMap f l ≡ flatMap g l
   unfolding flatMap
   flat-ext-all f g [] h = refl
   flat-ext-all f g (x ∷ l) h = ap₂ _++_ (h .0) (flat-ext-all f g l (h .1))
+
+  pub flat-ext : (f g : A → List B) (l : List A) → ((x : A) → f x ≡ g x) → flatMap f l ≡ flatMap g l
+  flat-ext f g l h = flat-ext-all f g l (all-of (λ x. f x ≡ g x) l (λ x m. h x))
 
   pub flat-append : (f : A → List B) (s t : List A) → flatMap f (s ++ t) ≡ flatMap f s ++ flatMap f t
   unfolding flatMap
@@ -81,9 +87,6 @@ module _ {A : Type 0} where
   unfolding sumOf
   sum-add f g [] = refl
   sum-add f g (x ∷ l) = ap (λ z. (f x +ℤ g x) +ℤ z) (sum-add f g l) ∙ regroup (f x) (g x) (sumOf f l) (sumOf g l)
-    where
-      regroup : (a b c d : ℤ) → (a +ℤ b) +ℤ (c +ℤ d) ≡ (a +ℤ c) +ℤ (b +ℤ d)
-      regroup a b c d = rw (split a, split b, split c, split d) (simp lin (mk-eq _ _ _ _ (omega arith)))
 
   pub sum-neg : (f : A → ℤ) (l : List A) → sumOf (λ x. negℤ (f x)) l ≡ negℤ (sumOf f l)
   unfolding sumOf
