@@ -13,7 +13,8 @@ use Rattle.crossings.proofs.Table.{count-ef, count-fe}
 
 -- A's facet has the corners p, q, r and B's the corners k, l, m.
 module _ {M N : Type 0} (point-A : M → Point) (up-A : M × M → Bool) (p q r : M) (point-B : N → Point) (up-B : N × N → Bool) (k l m : N) where
-  round-ef : round point-A up-A p q r (λ a. count (ef a (facet-at point-B up-B k l m))) ≡ pos 0 -ℤ round point-A up-A p q r (λ a. round point-B up-B k l m (λ b. S Z (ee a b)))
+  round-ef : round point-A up-A p q r (λ a. count (ef a (facet-at point-B up-B k l m)))
+      ≡ pos 0 -ℤ round point-A up-A p q r (λ a. round point-B up-B k l m (λ b. S Z (ee a b)))
   round-ef =
       let g = facet-at point-B up-B k l m in
       let inner : Edge → ℤ = λ a. round point-B up-B k l m (λ b. S Z (ee a b)) in
@@ -21,7 +22,8 @@ module _ {M N : Type 0} (point-A : M → Point) (up-A : M × M → Bool) (p q r 
       ∙ around-sub up-A (λ h. S Z (vf (point-A (h .0)) g) -ℤ S Z (vf (point-A (h .1)) g)) (λ h. inner (edge-at point-A h)) (half-edges-of p q r)
       ∙ ap (λ z. z -ℤ round point-A up-A p q r inner) (round-ends-turned point-A up-A p q r (λ v. S Z (vf v g)))
 
-  round-fe : round point-B up-B k l m (λ b. count (fe (facet-at point-A up-A p q r) b)) ≡ pos 0 -ℤ round point-B up-B k l m (λ b. round point-A up-A p q r (λ a. S Z (ee a b)))
+  round-fe : round point-B up-B k l m (λ b. count (fe (facet-at point-A up-A p q r) b))
+      ≡ pos 0 -ℤ round point-B up-B k l m (λ b. round point-A up-A p q r (λ a. S Z (ee a b)))
   round-fe =
       let f = facet-at point-A up-A p q r in
       let inner : Edge → ℤ = λ b. round point-A up-A p q r (λ a. S Z (ee a b)) in
@@ -29,7 +31,8 @@ module _ {M N : Type 0} (point-A : M → Point) (up-A : M × M → Bool) (p q r 
       ∙ around-sub up-B (λ h. S Z (fv f (point-B (h .1))) -ℤ S Z (fv f (point-B (h .0)))) (λ h. inner (edge-at point-B h)) (half-edges-of k l m)
       ∙ ap (λ z. z -ℤ round point-B up-B k l m inner) (round-ends point-B up-B k l m (λ v. S Z (fv f v)))
 
-  pub two-facets : round point-A up-A p q r (λ a. count (ef a (facet-at point-B up-B k l m))) ≡ round point-B up-B k l m (λ b. count (fe (facet-at point-A up-A p q r) b))
+  pub two-facets : round point-A up-A p q r (λ a. count (ef a (facet-at point-B up-B k l m)))
+      ≡ round point-B up-B k l m (λ b. count (fe (facet-at point-A up-A p q r) b))
   two-facets =
       round-ef
       ∙ ap (λ z. pos 0 -ℤ z) (around-swap up-A up-B (λ a b. S Z (ee (edge-at point-A a) (edge-at point-B b))) (half-edges-of p q r) (half-edges-of k l m))

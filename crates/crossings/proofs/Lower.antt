@@ -80,10 +80,12 @@ zero-ee a b =
 
 module _ {N : Type 0} (point : N → Point) (up : N × N → Bool) (p q r : N) where
   -- two edges' counts, round a facet of B and round a facet of A
-  round-ee-B : (e : Edge) → round point up p q r (λ h. count (ee e h)) ≡ round point up p q r (λ h. S Y (ve (e .end) h)) -ℤ round point up p q r (λ h. S Y (ve (e .start) h))
+  round-ee-B : (e : Edge) → round point up p q r (λ h. count (ee e h))
+      ≡ round point up p q r (λ h. S Y (ve (e .end) h)) -ℤ round point up p q r (λ h. S Y (ve (e .start) h))
   round-ee-B e = round-ext point up p q r _ _ (count-ee e) ∙ round-but-ends point up p q r (λ h. S Y (ve (e .end) h)) (λ h. S Y (ve (e .start) h)) (λ v. S Y (ev e v))
 
-  round-ee-A : (e : Edge) → round point up p q r (λ h. count (ee h e)) ≡ round point up p q r (λ h. S Y (ev h (e .end))) -ℤ round point up p q r (λ h. S Y (ev h (e .start)))
+  round-ee-A : (e : Edge) → round point up p q r (λ h. count (ee h e))
+      ≡ round point up p q r (λ h. S Y (ev h (e .end))) -ℤ round point up p q r (λ h. S Y (ev h (e .start)))
   round-ee-A e =
       round-ext point up p q r _ _ (λ h. count-ee h e ∙ law (S Y (ve (h .end) e)) (S Y (ve (h .start) e)) (S Y (ev h (e .end))) (S Y (ev h (e .start))))
       ∙ round-but-ends point up p q r (λ h. S Y (ev h (e .end))) (λ h. S Y (ev h (e .start))) (λ v. S Y (ve v e))

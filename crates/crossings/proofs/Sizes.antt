@@ -146,9 +146,15 @@ small-ee a b = omega (arith, half-of Y (lower-ee a b) (zero-ee a b), sizes-ee a 
 pub two-ef : (e : Edge) (f : Facet) → Bnd 2 (count (ef e f))
 unfolding ef
 two-ef e f =
-    omega (arith, half-of-small Z (lower-ef e f) (zero-ef e f) (each-ef Small small-against e f (small-vf (e .start) f) (small-vf (e .end) f) Anywhere (tt, tt, tt) (λ h c. small-ee e h)))
+    let h =
+    half-of-small Z (lower-ef e f) (zero-ef e f)
+    (each-ef Small small-against e f (small-vf (e .start) f) (small-vf (e .end) f) Anywhere (tt, tt, tt) (λ h c. small-ee e h)) in
+    omega arith
 
 pub two-fe : (f : Facet) (e : Edge) → Bnd 2 (count (fe f e))
 unfolding fe
 two-fe f e =
-    omega (arith, half-of-small Z (lower-fe f e) (zero-fe f e) (each-fe Small small-against f e (small-fv f (e .start)) (small-fv f (e .end)) Anywhere (tt, tt, tt) (λ h c. small-ee h e)))
+    let h =
+    half-of-small Z (lower-fe f e) (zero-fe f e)
+    (each-fe Small small-against f e (small-fv f (e .start)) (small-fv f (e .end)) Anywhere (tt, tt, tt) (λ h c. small-ee h e)) in
+    omega arith
