@@ -43,8 +43,12 @@ module _ (K : Crossing → Type 0) (turn : (c : Crossing) → K c → K (against
   pub each-ee : (a b : Edge) → K (ve (a .start) b) → K (ve (a .end) b) → K (ev a (b .start)) → K (ev a (b .end)) → All K (lower-ee a b)
   each-ee a b s t u v = (turn (ve (a .start) b) s, (t, (turn (ev a (b .start)) u, (v, tt))))
 
-  pub each-ef : (e : Edge) (f : Facet) → K (vf (e .start) f) → K (vf (e .end) f) → (R : Point → Type 0) → InFacet R f → ((h : Edge) → InEdge R h → K (ee e h)) → All K (lower-ef e f)
+  pub each-ef : (e : Edge) (f : Facet) → K (vf (e .start) f) → K (vf (e .end) f) → (R : Point → Type 0) → InFacet R f → ((h : Edge) → InEdge R h → K (ee e h))
+      → All K (lower-ef e f)
   each-ef e f s t R r h = (s, (turn (vf (e .end) f) t, all-against R f r (λ b. ee e b) h))
 
-  pub each-fe : (f : Facet) (e : Edge) → K (fv f (e .start)) → K (fv f (e .end)) → (R : Point → Type 0) → InFacet R f → ((h : Edge) → InEdge R h → K (ee h e)) → All K (lower-fe f e)
-  each-fe f e s t R r h = all-++ K (halves (λ a. against (ee a e)) f) (against (fv f (e .start)) ∷ fv f (e .end) ∷ []) (all-against R f r (λ a. ee a e) h) (turn (fv f (e .start)) s, (t, tt))
+  pub each-fe : (f : Facet) (e : Edge) → K (fv f (e .start)) → K (fv f (e .end)) → (R : Point → Type 0) → InFacet R f → ((h : Edge) → InEdge R h → K (ee h e))
+      → All K (lower-fe f e)
+  each-fe f e s t R r h =
+      all-++ K (halves (λ a. against (ee a e)) f) (against (fv f (e .start)) ∷ fv f (e .end) ∷ []) (all-against R f r (λ a. ee a e) h)
+      (turn (fv f (e .start)) s, (t, tt))

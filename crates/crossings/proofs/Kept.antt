@@ -84,7 +84,8 @@ module _ (P Q : Point → Type 0) (held-P : Held P) (held-Q : Held Q) where
   unfolding ee
   keeps-ee a b c d =
       keeps-paired Y (lower-ee a b) (zero-ee a b)
-      (each-ee (Keeps P Q) (keeps-against P Q) a b (keeps-ve (a .start) b (c .0) d) (keeps-ve (a .end) b (c .1) d) (keeps-ev a (b .start) c (d .0)) (keeps-ev a (b .end) c (d .1)))
+      (each-ee (Keeps P Q) (keeps-against P Q) a b (keeps-ve (a .start) b (c .0) d) (keeps-ve (a .end) b (c .1) d)
+      (keeps-ev a (b .start) c (d .0)) (keeps-ev a (b .end) c (d .1)))
 
   pub keeps-ef : (e : Edge) (f : Facet) → InEdge P e → InFacet Q f → Keeps P Q (ef e f)
   unfolding ef

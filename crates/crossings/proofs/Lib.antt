@@ -1,4 +1,4 @@
-pub mod Around
+pub mod Corners
 pub mod Table
 pub mod Lower
 pub mod Facets

@@ -40,7 +40,7 @@ unfolding sumOf sizes
 sum-size φ [] = bnd-zero
 sum-size φ (c ∷ cs) = bnd-add (natAbs (φ c)) (sizes φ cs) (φ c) (sumOf φ cs) (le-refl (natAbs (φ c))) (sum-size φ cs)
 
--- what S keeps, and what it drops
+-- S keeps a count or drops it
 kept-dropped : (k : Axis) (c : Crossing) → natAbs (S k c) + natAbs (count c -ℤ S k c) ≡ natAbs (count c)
 unfolding S
 kept-dropped k Miss = refl
@@ -103,7 +103,8 @@ no-square s e p q sp sq ep eq =
     never (le e p) (le-trans e q p eq (le-trans q s p (le-of-lt q s (not-le q s (right-number e q eq) (left-number s p sp) sq)) sp)) ep
 
 -- of start with start, start with end, end with start, end with end
-one-level : (ss sn ns nn : Bool) → (ss ≡ true → sn ≡ false → ns ≡ false → nn ≡ true → ⊥) → (ss ≡ false → sn ≡ true → ns ≡ true → nn ≡ false → ⊥) → (ss ≡ sn) ⊎ (ns ≡ nn) ⊎ (ss ≡ ns)
+one-level : (ss sn ns nn : Bool) → (ss ≡ true → sn ≡ false → ns ≡ false → nn ≡ true → ⊥) → (ss ≡ false → sn ≡ true → ns ≡ true → nn ≡ false → ⊥)
+    → (ss ≡ sn) ⊎ (ns ≡ nn) ⊎ (ss ≡ ns)
 one-level true true ns nn f g = inl refl
 one-level false false ns nn f g = inl refl
 one-level true false true nn f g = inr (inr refl)
@@ -128,7 +129,10 @@ sizes-ee : (a b : Edge) → sizes count (lower-ee a b) ≤ 3
 unfolding sizes at-least
 sizes-ee a b =
     let small = each-ee Small small-against a b (small-ve (a .start) b) (small-ve (a .end) b) (small-ev a (b .start)) (small-ev a (b .end)) in
-    elim (one-level (test (a .start) (b .start)) (test (a .start) (b .end)) (test (a .end) (b .start)) (test (a .end) (b .end)) (no-square _ _ _ _) (λ ss sn ns nn. no-square _ _ _ _ sn ss nn ns)) [
+    let level =
+    one-level (test (a .start) (b .start)) (test (a .start) (b .end)) (test (a .end) (b .start)) (test (a .end) (b .end)) (no-square _ _ _ _)
+    (λ ss sn ns nn. no-square _ _ _ _ sn ss nn ns) in
+    elim level [
       | inl e ↦ let z = ap natAbs (count-against (ve (a .start) b) ∙ ap negℤ (level-ve (a .start) b e)) in omega arith
       | inr (inl e) ↦ let z = ap natAbs (level-ve (a .end) b e) in omega arith
       | inr (inr e) ↦ let z = ap natAbs (count-against (ev a (b .start)) ∙ ap negℤ (level-ev a (b .start) e)) in omega arith
@@ -142,9 +146,15 @@ small-ee a b = omega (arith, half-of Y (lower-ee a b) (zero-ee a b), sizes-ee a 
 pub two-ef : (e : Edge) (f : Facet) → Bnd 2 (count (ef e f))
 unfolding ef
 two-ef e f =
-    omega (arith, half-of-small Z (lower-ef e f) (zero-ef e f) (each-ef Small small-against e f (small-vf (e .start) f) (small-vf (e .end) f) Anywhere (tt, tt, tt) (λ h c. small-ee e h)))
+    let h =
+    half-of-small Z (lower-ef e f) (zero-ef e f)
+    (each-ef Small small-against e f (small-vf (e .start) f) (small-vf (e .end) f) Anywhere (tt, tt, tt) (λ h c. small-ee e h)) in
+    omega arith
 
 pub two-fe : (f : Facet) (e : Edge) → Bnd 2 (count (fe f e))
 unfolding fe
 two-fe f e =
-    omega (arith, half-of-small Z (lower-fe f e) (zero-fe f e) (each-fe Small small-against f e (small-fv f (e .start)) (small-fv f (e .end)) Anywhere (tt, tt, tt) (λ h c. small-ee h e)))
+    let h =
+    half-of-small Z (lower-fe f e) (zero-fe f e)
+    (each-fe Small small-against f e (small-fv f (e .start)) (small-fv f (e .end)) Anywhere (tt, tt, tt) (λ h c. small-ee h e)) in
+    omega arith
