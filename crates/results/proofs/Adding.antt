@@ -3,18 +3,19 @@ use mathlib.Core.Path.{_≡_, sym, ap, ap₂, _∙_}
 use Prim.Native.Nat.{ℕ}
 use native.Mathlib.Omega.{arith}
 use lib.Dec.{eqb}
-use lib.IntN.{ℤ, negℤ, _+ℤ_, _-ℤ_, _*ℤ_, +ℤ-idl, +ℤ-idr}
+use lib.IntN.{ℤ, negℤ, _+ℤ_, _-ℤ_, _*ℤ_, +ℤ-idr}
 use Rattle.sums.specs.Lists.{upTo, sumOf}
 use Rattle.sums.proofs.Integers.{split, mk-eq, lin, mul-sub}
 use Rattle.sums.proofs.Sums.{sum-ext, sum-sub, sum-mul}
 use Rattle.sums.proofs.Closed.{Closed, Simple}
-use Rattle.sums.proofs.Signed.{loop, around-ext, around-sub, around-diff′, around-mul, around-swap}
+use Rattle.sums.proofs.Signed.{around-mul}
 use Rattle.points.specs.declared.Axis.the-variants.{Z}
-use Rattle.crossings.specs.Crossings.{count, S, vf, fv, ee}
+use Rattle.crossings.specs.Crossings.{count, S, fv, ee}
 use Rattle.crossings.proofs.Table.{count-ef, count-fe}
+use Rattle.crossings.proofs.Facets.{two-facets}
 use Rattle.solids.specs.Solids.{Solid, Half, vertex, corner, facets, facet, edge, half-edges, along, facet-half-edges}
 use Rattle.solids.specs.Containment.{in-A, in-B}
-use Rattle.solids.proofs.Around.{around, around-bare, around-closed}
+use Rattle.solids.proofs.Around.{around, around-closed}
 use Rattle.results.specs.declared.Operation.{Operation}
 use Rattle.results.specs.Inclusion.{Key, vA, eAfB, fAeB, vB, edge-facet, facet-edge, cA, cB, cI, inclusion}
 
@@ -33,38 +34,18 @@ row-sum s shut x u w z e =
     ∙ ap₂ _-ℤ_ (sum-sub u w (upTo (facets s))) (around-closed s (shut .closed) (shut .simple) z)
     ∙ +ℤ-idr (sumOf u (upTo (facets s)) -ℤ sumOf w (upTo (facets s)))
 
--- ---- round a facet: what hangs on the ends of its edges falls out
-facet-sum :
-    (s : Solid) (f : ℕ) (x z : Half → ℤ) (φ : ℕ → ℤ) → ((e : Half) → x e ≡ φ (e .0) -ℤ φ (e .1) -ℤ z e) → around s x f ≡ negℤ (around s z f)
-facet-sum s f x z φ e =
-    around-ext along x (λ e. φ (e .0) -ℤ φ (e .1) -ℤ z e) (facet-half-edges s f) e
-    ∙ around-sub along (λ e. φ (e .0) -ℤ φ (e .1)) z (facet-half-edges s f)
-    ∙ ap (λ y. y -ℤ around s z f) (around-diff′ along φ (facet-half-edges s f) (loop (corner s f 0) (corner s f 1) (corner s f 2)))
-    ∙ +ℤ-idl (negℤ (around s z f))
-
 -- ---- the counts
 module _ (a b : Solid) where
-  X-eAfB : (e : Half) (g : ℕ) → count (edge-facet a b e g) ≡ S Z (vf (vertex a (e .0)) (facet b g)) -ℤ S Z (vf (vertex a (e .1)) (facet b g)) -ℤ around b (λ k. S Z (ee (edge a e) (edge b k))) g
-  unfolding edge-facet
-  X-eAfB e g =
-      count-ef (edge a e) (facet b g)
-      ∙ ap (λ y. S Z (vf (vertex a (e .0)) (facet b g)) -ℤ S Z (vf (vertex a (e .1)) (facet b g)) -ℤ y) (around-bare b (λ k. S Z (ee (edge a e) k)) g)
-
-  X-fAeB : (f : ℕ) (e : Half) → count (facet-edge a b f e) ≡ S Z (fv (facet a f) (vertex b (e .1))) -ℤ S Z (fv (facet a f) (vertex b (e .0))) -ℤ around a (λ k. S Z (ee (edge a k) (edge b e))) f
-  unfolding facet-edge
-  X-fAeB f e =
-      count-fe (facet a f) (edge b e)
-      ∙ ap (λ y. S Z (fv (facet a f) (vertex b (e .1))) -ℤ S Z (fv (facet a f) (vertex b (e .0))) -ℤ y) (around-bare a (λ k. S Z (ee k (edge b e))) f)
-
   -- an edge's crossings count how often the other solid contains its start more than its end
   sum-eAfB : Shut b → (e : Half) → sumOf (λ g. count (edge-facet a b e g)) (upTo (facets b)) ≡ in-B (vertex a (e .0)) b -ℤ in-B (vertex a (e .1)) b
-  unfolding in-B
-  sum-eAfB shut e = row-sum b shut _ _ _ (λ k. S Z (ee (edge a e) (edge b k))) (X-eAfB e)
+  unfolding in-B edge-facet
+  sum-eAfB shut e =
+      row-sum b shut _ _ _ (λ k. S Z (ee (edge a e) (edge b k))) (λ g. count-ef (vertex b) along (corner b g 0) (corner b g 1) (corner b g 2) (edge a e))
 
   sum-fAeB : Shut a → (e : Half) → sumOf (λ f. count (facet-edge a b f e)) (upTo (facets a)) ≡ in-A a (vertex b (e .0)) -ℤ in-A a (vertex b (e .1))
-  unfolding in-A
+  unfolding in-A facet-edge
   sum-fAeB shut e =
-      row-sum a shut _ _ _ (λ k. S Z (ee (edge a k) (edge b e))) (λ f. X-fAeB f e)
+      row-sum a shut _ _ _ (λ k. S Z (ee (edge a k) (edge b e))) (λ f. count-fe (vertex a) along (corner a f 0) (corner a f 1) (corner a f 2) (edge b e))
       ∙ law (sumOf (λ f. S Z (fv (facet a f) (vertex b (e .0)))) (upTo (facets a))) (sumOf (λ f. S Z (fv (facet a f) (vertex b (e .1)))) (upTo (facets a)))
     where
       law : (x y : ℤ) → y -ℤ x ≡ negℤ x -ℤ negℤ y
@@ -72,13 +53,8 @@ module _ (a b : Solid) where
 
   -- round two facets, each with the other, the counts are the same
   round-fAfB : (f g : ℕ) → around a (λ e. count (edge-facet a b e g)) f ≡ around b (λ e. count (facet-edge a b f e)) g
-  round-fAfB f g =
-      facet-sum a f _ (λ e. around b (λ k. S Z (ee (edge a e) (edge b k))) g) (λ p. S Z (vf (vertex a p) (facet b g))) (λ e. X-eAfB e g)
-      ∙ ap negℤ (around-swap along along (λ e k. S Z (ee (edge a e) (edge b k))) (facet-half-edges a f) (facet-half-edges b g))
-      ∙ sym (facet-sum b g _ (λ e. around a (λ k. S Z (ee (edge a k) (edge b e))) f) (λ p. negℤ (S Z (fv (facet a f) (vertex b p)))) (λ e. X-fAeB f e ∙ law (S Z (fv (facet a f) (vertex b (e .0)))) (S Z (fv (facet a f) (vertex b (e .1)))) (around a (λ k. S Z (ee (edge a k) (edge b e))) f)))
-    where
-      law : (x y z : ℤ) → y -ℤ x -ℤ z ≡ negℤ x -ℤ negℤ y -ℤ z
-      law x y z = rw (split x, split y, split z) (simp lin (mk-eq _ _ _ _ (omega arith)))
+  unfolding edge-facet facet-edge
+  round-fAfB f g = two-facets (vertex a) along (corner a f 0) (corner a f 1) (corner a f 2) (vertex b) along (corner b g 0) (corner b g 1) (corner b g 2)
 
 -- ---- the inclusions
 pub record Adds (inc : Key → ℤ) (a b : Solid) : Type 0 where

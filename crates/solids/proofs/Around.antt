@@ -1,21 +1,18 @@
--- Sums round the facets of a solid, by its half-edges: what a bare facet's sum is by vertex numbers, and that the sum over all facets of a closed
--- solid is 0.
+-- Sums round the facets of a solid, by its half-edges: over all facets of a closed solid they are 0.
 use mathlib.Core.Path.{_≡_, refl, sym, _∙_}
 use mathlib.Core.Logic.{_≢_}
-use mathlib.Core.Bool.{Bool, true, false, not, cond}
+use mathlib.Core.Bool.{Bool, true, false, not}
 use Prim.Native.Nat.{ℕ}
 use native.Mathlib.Omega.{arith}
 use lib.Dec.{eqb, eqb→eq, eqb-refl}
-use lib.IntN.{ℤ, pos, negℤ}
+use lib.IntN.{ℤ, pos}
 use borrow.Author.Tests.{ltb-true, ltb-false, lt-ltb, le-ltb}
 use Rattle.sums.specs.Lists.{upTo, sumOf, turned}
 use Rattle.sums.proofs.Sums.{sum-flatMap}
 use Rattle.sums.proofs.Closed.{Closed, Simple, closed-sum}
 use Rattle.sums.proofs.Signed as Signed
 use Rattle.sums.proofs.Signed.{sgn, sgn-anti}
-use Rattle.crossings.specs.declared.Edge.{Edge}
-use Rattle.crossings.proofs.Around as Bare
-use Rattle.solids.specs.Solids.{Solid, Half, facets, corner, vertex, facet-half-edges, half-edges, along, edge, facet}
+use Rattle.solids.specs.Solids.{Solid, Half, facets, facet-half-edges, half-edges, along}
 
 pub along-turned : (h : Half) → h .0 ≢ h .1 → along (turned h) ≡ not (along h)
 along-turned h n = go (along h) refl
@@ -28,18 +25,6 @@ module _ (s : Solid) where
   -- a function of edges, summed round facet f with the signs of its half-edges
   abbrev pub around : (Half → ℤ) → ℕ → ℤ
   around x f = Signed.around along x (facet-half-edges s f)
-
-  one-side : (F : Edge → ℤ) (p q : ℕ) → Bare.part F (along (p, q)) (vertex s p) (vertex s q) ≡ sgn along (λ e. F (edge s e)) (p, q)
-  one-side F p q = go (along (p, q))
-    where
-      go : (b : Bool) → Bare.part F b (vertex s p) (vertex s q) ≡ cond b (F (edge s (cond b (p, q) (q, p)))) (negℤ (F (edge s (cond b (p, q) (q, p)))))
-      go true = refl
-      go false = refl
-
-  -- the same of the bare facet
-  pub around-bare : (F : Edge → ℤ) (f : ℕ) → Bare.around F (facet s f) ≡ around (λ e. F (edge s e)) f
-  unfolding sumOf
-  around-bare F f = rw (one-side F (corner s f 0) (corner s f 1), one-side F (corner s f 1) (corner s f 2), one-side F (corner s f 2) (corner s f 0))
 
   pub around-closed : Closed eqb (half-edges s) → Simple (half-edges s) → (x : Half → ℤ) → sumOf (around x) (upTo (facets s)) ≡ pos 0
   unfolding half-edges
