@@ -1,0 +1,5 @@
+pub mod Orders
+pub mod Pairs
+pub mod Admitted
+pub mod Shut
+pub mod Laid
