@@ -3,3 +3,5 @@ pub mod Adding
 pub mod Balance
 pub mod Closed
 pub mod Limit
+pub mod Keys
+pub mod Corners

@@ -2,24 +2,18 @@
 use mathlib.Core.Path.{_≡_, sym, ap, _∙_}
 use mathlib.Core.Logic.{_≢_, _⊎_, inl, inr}
 use mathlib.Core.Bool.{Bool, true, false, not, cond}
-use mathlib.Core.List.{List, map, flatMap, List·Memᴰ, List·Memᴰ·head, List·Memᴰ·tail, Memᴰ·append-left, Memᴰ·append-right, Memᴰ·map}
+use mathlib.Core.List.{List, map, List·Memᴰ, List·Memᴰ·head, List·Memᴰ·tail, Memᴰ·map}
 use Prim.Native.Nat.{ℕ, _<_}
 use native.Mathlib.Omega.{arith}
 use native.Mathlib.Decide.{decLt}
 use lib.Dec.{eqb, eqb→eq, eqb-refl}
 use borrow.Author.Tests.{lt-ltb, le-ltb}
 use Rattle.sums.specs.Lists.{upTo, one-if, times, turned}
-use Rattle.sums.proofs.Sums.{All, all-map-of, all-flatMap}
+use Rattle.sums.proofs.Sums.{All, all-map-of, all-flatMap, mem-flatMap}
 use Rattle.sums.proofs.Tests.{of-T}
 use Rattle.sums.proofs.UpTo.{Distinct, distinct-map, distinct-blocks, apart-maps, distinct-upTo, all-upTo, mem-upTo}
 use Rattle.sums.proofs.Closed.{same-half-self}
 use Rattle.solids.specs.Solids.{Half, same-half, number-of, pairs, along, edge-of}
-
--- ---- pairs
-pub mem-flatMap : {A B : Type 0} (f : A → List B) {x : A} {y : B} {l : List A} → List·Memᴰ x l → List·Memᴰ y (f x) → List·Memᴰ y (flatMap f l)
-unfolding flatMap
-mem-flatMap f (List·Memᴰ·head {xs = l} e) m = Memᴰ·append-left (flatMap f l) (rw (ap f e) at m)
-mem-flatMap f (List·Memᴰ·tail {x = z} i) m = Memᴰ·append-right (f z) (mem-flatMap f i m)
 
 abbrev row : ℕ → ℕ → List Half
 row n p = map (λ q. (p, q)) (upTo n)

@@ -1,6 +1,6 @@
 -- What holds of every element of a list, lists put together from lists, and sums over lists.
 use mathlib.Core.Path.{_≡_, refl, sym, ap, ap₂, _∙_, subst}
-use mathlib.Core.List.{List, [], _∷_, _++_, map, flatMap, append-assoc, List·Memᴰ, List·Memᴰ·head, List·Memᴰ·tail}
+use mathlib.Core.List.{List, [], _∷_, _++_, map, flatMap, append-assoc, List·Memᴰ, List·Memᴰ·head, List·Memᴰ·tail, Memᴰ·append-left, Memᴰ·append-right}
 use mathlib.Core.Bool.{Bool, true, false, cond}
 use Prim.Native.Nat.{ℕ, _*_}
 use native.Mathlib.Nat.{zero-mul}
@@ -31,7 +31,16 @@ module _ {A : Type 0} where
   all-++ p [] t a b = b
   all-++ p (x ∷ s) t a b = (a .0, all-++ p s t (a .1) b)
 
+  pub all-both : (p q : A → Type 0) (l : List A) → All p l → All q l → All (λ x. p x × q x) l
+  all-both p q [] a b = tt
+  all-both p q (x ∷ l) a b = ((a .0, b .0), all-both p q l (a .1) (b .1))
+
 module _ {A B : Type 0} where
+  pub mem-flatMap : (f : A → List B) {x : A} {y : B} {l : List A} → List·Memᴰ x l → List·Memᴰ y (f x) → List·Memᴰ y (flatMap f l)
+  unfolding flatMap
+  mem-flatMap f (List·Memᴰ·head {xs = l} e) m = Memᴰ·append-left (flatMap f l) (rw (ap f e) at m)
+  mem-flatMap f (List·Memᴰ·tail {x = z} i) m = Memᴰ·append-right (f z) (mem-flatMap f i m)
+
   pub all-map-of : (p : B → Type 0) (f : A → B) (l : List A) → All (λ x. p (f x)) l → All p (map f l)
   all-map-of p f [] a = tt
   all-map-of p f (x ∷ l) a = (a .0, all-map-of p f l (a .1))
