@@ -1,37 +1,24 @@
 -- The triangles of a result are closed: each boundary goes round, so a fan turns as its boundary does, and all boundaries together turn back.
 use mathlib.Core.Path.{_≡_, ap₂, _∙_}
-use mathlib.Core.Bool.{not}
 use mathlib.Core.List.{List, flatMap}
 use Prim.Native.Nat.{ℕ, _+_}
-use lib.Dec.{eqb, eqb→eq}
+use lib.Dec.{eqb}
 use lib.IntN.{ℤ, _+ℤ_}
-use Rattle.sums.specs.Lists.{upTo, sumOf, keep}
-use Rattle.sums.proofs.Sums.{sum-append, sum-ext, sum-map, sum-flatMap}
+use Rattle.sums.specs.Lists.{upTo, sumOf}
+use Rattle.sums.proofs.Sums.{sum-append, sum-ext, sum-flatMap}
 use Rattle.sums.proofs.Closed.{Anti, Closed, closed-of-sums}
 use Rattle.sums.proofs.Signed.{Round}
-use Rattle.sums.proofs.Fans.{fan-sum}
-use Rattle.solids.specs.Solids.{Solid, Half, facets, half-edges-of}
+use Rattle.solids.specs.Solids.{Solid, Half, facets}
 use Rattle.results.specs.Inclusion.{Key}
-use Rattle.results.specs.Triangles.{Triangle, smallest, at-end, fan, boundary-A, boundary-B, triangles}
+use Rattle.results.specs.Triangles.{fan, boundary-A, boundary-B, triangles}
 use Rattle.results.proofs.Adding.{Shut, Adds}
+use Rattle.results.proofs.Fans.{triangle-half-edges, turn, fan-turns}
 use Rattle.results.proofs.Balance.{turns-back, round-A, round-B}
 
-abbrev pub triangle-half-edges : Triangle → List Half
-triangle-half-edges t = half-edges-of (t .a) (t .p) (t .q)
-
 module _ (G : Half → ℤ) (anti : Anti G) where
-  abbrev turn : Triangle → ℤ
-  turn t = sumOf G (triangle-half-edges t)
-
-  fan-turns : (o : ℕ) (hs : List Half) → Round hs → sumOf turn (fan o hs) ≡ sumOf G hs
-  unfolding fan sumOf
-  fan-turns o hs round =
-      sum-map turn (λ (h : Half). record { a = smallest hs; p = h .0; q = h .1; origin = o }) (keep (λ h. not (at-end (smallest hs) h)) hs)
-      ∙ fan-sum eqb eqb→eq G anti (smallest hs) hs round
-
-  fans-turn : (o : ℕ → ℕ) (boundary : ℕ → List Half) → ((f : ℕ) → Round (boundary f)) → (fs : List ℕ) → sumOf turn (flatMap (λ f. fan (o f) (boundary f)) fs) ≡ sumOf (λ f. sumOf G (boundary f)) fs
+  fans-turn : (o : ℕ → ℕ) (boundary : ℕ → List Half) → ((f : ℕ) → Round (boundary f)) → (fs : List ℕ) → sumOf (turn G) (flatMap (λ f. fan (o f) (boundary f)) fs) ≡ sumOf (λ f. sumOf G (boundary f)) fs
   fans-turn o boundary round fs =
-      sum-flatMap turn (λ f. fan (o f) (boundary f)) fs ∙ sum-ext _ (λ f. sumOf G (boundary f)) fs (λ f. fan-turns (o f) (boundary f) (round f))
+      sum-flatMap (turn G) (λ f. fan (o f) (boundary f)) fs ∙ sum-ext _ (λ f. sumOf G (boundary f)) fs (λ f. fan-turns G anti (o f) (boundary f) (round f))
 
 pub triangles-closed : (inc : Key → ℤ) (num : Key → ℕ) (a b : Solid) → Adds inc a b → Shut a → Shut b → Closed eqb (flatMap triangle-half-edges (triangles inc num a b))
 unfolding triangles

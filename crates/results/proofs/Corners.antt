@@ -2,20 +2,17 @@
 -- keys have different numbers, so no piece goes from a vertex to itself.
 use mathlib.Core.Path.{_≡_, refl, sym, ap, ap₂, subst}
 use mathlib.Core.Logic.{_≢_}
-use mathlib.Core.Bool.{Bool, true, false, not, cond}
+use mathlib.Core.Bool.{Bool, true, false, cond}
 use mathlib.Core.List.{List, [], _∷_, map, flatMap, zip, List·Memᴰ}
 use Prim.Native.Nat.{ℕ, zero, suc, _+_, _<_}
 use native.Mathlib.Omega.{arith}
-use lib.Dec.{eqb, eqb-refl}
 use lib.ListN.{length, replicate}
 use lib.IntN.{ℤ, pos, negsuc, negℤ}
-use Rattle.sums.specs.Lists.{upTo, keep, turned, nonzero, above, below}
-use Rattle.sums.proofs.Sums.{All, all-at, all-of, all-mono, all-both, all-++, all-map-of, all-flatMap, flat-map}
-use Rattle.sums.proofs.Tests.{all-keep}
+use Rattle.sums.specs.Lists.{upTo, turned, nonzero, above, below}
+use Rattle.sums.proofs.Sums.{All, all-at, all-of, all-mono, all-++, all-map-of, all-flatMap, flat-map}
 use Rattle.sums.proofs.UpTo.{Distinct, distinct-++, distinct-map, apart-maps, distinct-upTo, all-upTo}
 use Rattle.sums.proofs.Joining as Joining
 use Rattle.sums.proofs.Numbering.{number-inj, number-lt, join-keys}
-use Rattle.sums.proofs.Fans.{fan-apart, least-lt}
 use Rattle.solids.specs.Solids.{Solid, Half, facets, facet-half-edges, edges, along, edge-of, signed}
 use Rattle.solids.proofs.Admitted.{Proper, Passed, Between}
 use Rattle.solids.proofs.Shut.{Is-edge, all-edges, facet-edges, facet-edges-distinct}
@@ -23,7 +20,8 @@ use Rattle.results.specs.declared.End.{End}
 use Rattle.results.specs.Inclusion.{Key, vA, eAfB, fAeB, vB}
 use Rattle.results.specs.Vertices.{keys, kept, number, same-key}
 use Rattle.results.specs.Pieces.{SignedEnd, minus, plain, signed-as, ends-along, ends-of-eA, ends-of-fAfB, ends-of-eB, starts, stops, pieces, as-half}
-use Rattle.results.specs.Triangles.{Triangle, smallest, at-end, fan, joined, pieces-of-eA, pieces-of-fAfB, pieces-of-eB, boundary-A, boundary-B, triangles}
+use Rattle.results.specs.Triangles.{Triangle, fan, joined, pieces-of-eA, pieces-of-fAfB, pieces-of-eB, boundary-A, boundary-B, triangles}
+use Rattle.results.proofs.Fans.{fan-proper}
 use Rattle.results.proofs.Keys.{same-key-sound, same-key-self, mem-vA, mem-eAfB, mem-fAeB, mem-vB}
 
 differ : _≡_ {A = ℕ} 0 1 → ⊥
@@ -43,33 +41,6 @@ signed-ne h x = go (along h)
 
 turned-between : (n : ℕ) (h : Half) → Between n h → Between n (turned h)
 turned-between n h s = record { start = s .end; end = s .start; apart = λ e. s .apart (sym e) }
-
--- ---- a fan over steps between different numbers below n
-fan-proper : (n o : ℕ) (hs : List Half) → All (Between n) hs → All (λ (t : Triangle). Proper n (t .a) (t .p) (t .q)) (fan o hs)
-unfolding fan keep smallest
-fan-proper n o [] s = tt
-fan-proper n o (k ∷ ks) s =
-    all-map-of (λ (t : Triangle). Proper n (t .a) (t .p) (t .q)) (λ (h : Half). record { a = m; p = h .0; q = h .1; origin = o }) (keep test (k ∷ ks))
-    (all-mono _ _ (keep test (k ∷ ks)) three
-    (all-both _ _ (keep test (k ∷ ks)) (all-keep test (Between n) (k ∷ ks) s)
-    (fan-apart eqb eqb-refl m (k ∷ ks) (all-mono (Between n) (λ h. h .0 ≢ h .1) (k ∷ ks) (λ h b. b .apart) s))))
-  where
-    m : ℕ
-    m = smallest (k ∷ ks)
-
-    test : Half → Bool
-    test h = not (at-end m h)
-
-    three : (h : Half) → ((test h ≡ true) × Between n h) × ((m ≢ h .0) × (h .0 ≢ h .1) × (h .1 ≢ m)) → Proper n m (h .0) (h .1)
-    three h r =
-        record {
-          below-p = least-lt (k .0) n (flatMap (λ (j : Half). j .0 ∷ j .1 ∷ []) (k ∷ ks)) (s .0 .start);
-          below-q = r .0 .1 .start;
-          below-r = r .0 .1 .end;
-          apart-pq = r .1 .0;
-          apart-qr = r .1 .1;
-          apart-rp = r .1 .2;
-        }
 
 module _ (inc : Key → ℤ) (a b : Solid) where
   abbrev num : Key → ℕ

@@ -96,8 +96,8 @@ robust code op known a b ok-a ok-b =
       given = λ l room. else-done a b l op code known ok-a ok-b room;
       closed = closed op a b pa pb;
       corners =
-        λ t i. let h = proper op a b pa pb t i in
-        record { below-0 = h .below-p; below-1 = h .below-q; below-2 = h .below-r; apart-01 = h .apart-pq; apart-12 = h .apart-qr; apart-20 = h .apart-rp };
+          λ t i. let h = proper op a b pa pb t i in
+          record { below-0 = h .below-p; below-1 = h .below-q; below-2 = h .below-r; apart-01 = h .apart-pq; apart-12 = h .apart-qr; apart-20 = h .apart-rp };
       present = λ x m. near-number x (all-at Near m (within op a b pa pb));
       within = λ x m. near-within x (all-at Near m (within op a b pa pb));
       admitted = again op a b pa pb;
