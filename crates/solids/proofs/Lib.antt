@@ -5,3 +5,5 @@ pub mod Shut
 pub mod Laid
 pub mod Around
 pub mod Limit
+pub mod Blank
+pub mod Tally

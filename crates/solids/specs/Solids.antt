@@ -17,9 +17,12 @@ pub record Solid : Type 0 where
   pub points : List Float
   pub corners : List ℕ
 
+abbrev pub solid : List Float → List ℕ → Solid
+solid points corners = record { points = points; corners = corners }
+
 -- "The solid with no vertices is admitted; it means nothing"
 abbrev pub nothing : Solid
-nothing = record { points = []; corners = [] }
+nothing = solid [] []
 
 abbrev pub vertices : Solid → ℕ
 vertices s = length (s .points) / 3

@@ -1,1 +1,3 @@
-// A solid is two lists that the caller lends: coordinates, three a point, and corners, three vertex numbers a facet. Nothing to run yet.
+// A solid is two lists that the caller lends: coordinates, three a point, and corners, three vertex numbers a facet.
+pub mod admission;
+mod table;

@@ -8,3 +8,4 @@ pub mod Joining
 pub mod Fans
 pub mod Threes
 pub mod Numbering
+pub mod Searches

@@ -1,0 +1,20 @@
+-- `beyond` meets its contract: the two numbers in the code are the limit and its negative.
+use lib.Ieee.{ofBits, neg}
+use Rattle.solids.specs.Admission.{beyond}
+use Rattle.solids.proofs.admission.beyond.Statement.{statement}
+use Rattle.solids.proofs.admission.beyond.Tie as tie
+use Rattle.solids.proofs.admission.beyond.Reads as reads
+use Rattle.solids.proofs.admission.beyond.Lts as lts
+
+-- src/admission.rt:20:1
+returns : tie.Need-returns
+unfolding beyond ofBits
+returns c = rw (c .if1 .taken)
+
+-- src/admission.rt:20:1
+returns-2 : tie.Need-returns-2
+unfolding beyond ofBits neg
+returns-2 c = rw (c .if1 .left)
+
+pub beyond-spec : {M : Type 1} → statement M
+beyond-spec = tie.close (tie.spec returns returns-2)

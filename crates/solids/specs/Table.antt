@@ -1,0 +1,31 @@
+-- Words of the contracts between functions of this crate; no public statement needs them.
+use mathlib.Core.Path.{_≡_}
+use mathlib.Core.List.{List, [], flatMap}
+use Prim.Native.Nat.{ℕ, _+_, _*_, _<_}
+use lib.ListN.{length, getD}
+use lib.Ieee.{Float, isNan}
+use mathlib.Core.Bool.{Bool, true, false}
+use Rattle.sums.specs.Lists.{upTo}
+use Rattle.solids.specs.Solids.{Half, solid, number-of, facet-half-edges}
+use Rattle.solids.specs.Admission.{beyond}
+
+-- one loop serves checks 3 and 4
+abbrev pub bad : Bool → Float → Bool
+bad true x = isNan x
+bad false x = beyond x
+
+-- The table in which half-edges are counted has 128 rows of 128: what stands at 128 * p + q is how many half-edges run from p to q.
+abbrev pub place : Half → ℕ
+place h = 128 * h .0 + h .1
+
+pub record Tallied (table : List ℕ) (hs : List Half) : Type 0 where
+  pub size : length table ≡ 16384
+  pub at : (h : Half) → h .0 < 128 → h .1 < 128 → getD table (place h) 0 ≡ number-of h hs
+
+-- every corner number finds its row
+abbrev pub Low : List ℕ → Type 0
+Low corners = (i : ℕ) → i < length corners → getD corners i 0 < 128
+
+-- the half-edges of the facets below f
+unfoldable pub counted : List ℕ → ℕ → List Half
+counted corners f = flatMap (facet-half-edges (solid [] corners)) (upTo f)

@@ -1,0 +1,56 @@
+-- Searches: what a loop that looks for the first that passes a test knows at each turn, over a list and over the numbers below n.
+use mathlib.Core.Path.{_≡_, refl, sym, ap, _∙_}
+use mathlib.Core.Bool.{Bool, true, false, _||_}
+use mathlib.Core.List.{List, [], _∷_, _++_}
+use Prim.Native.Nat.{ℕ, zero, suc, _+_, _<_, _≤_}
+use native.Mathlib.Omega.{arith}
+use native.Mathlib.Numerals.{add-one}
+use lib.ListN.{length, take, getD}
+use Rattle.sums.specs.Lists.{any, upTo}
+use Rattle.sums.proofs.Tests.{true-any, or-false}
+use Rattle.sums.proofs.UpTo.{mem-upTo}
+
+module _ {A : Type 0} (p : A → Bool) where
+  pub any-append : (s t : List A) → any p (s ++ t) ≡ any p s || any p t
+  unfolding any
+  any-append [] t = refl
+  any-append (x ∷ s) t = rw (any-append s t) (regroup (p x) (any p s) (any p t))
+    where
+      regroup : (a b c : Bool) → a || (b || c) ≡ (a || b) || c
+      regroup true b c = refl
+      regroup false b c = refl
+
+  -- a list, seen up to place i
+  pub any-next : (l : List A) (i : ℕ) (d : A) → i < length l → any p (take i l) ≡ false → p (getD l i d) ≡ false → any p (take (i + 1) l) ≡ false
+  unfolding any
+  any-next l i d h e f = rw (add-one i) (go l i h e f)
+    where
+      go : (l : List A) (i : ℕ) → i < length l → any p (take i l) ≡ false → p (getD l i d) ≡ false → any p (take (suc i) l) ≡ false
+      go [] i h e f = absurd (omega arith)
+      go (x ∷ l) zero h e f = rw f
+      go (x ∷ l) (suc i) h e f = let r = or-false (p x) (any p (take i l)) e in rw (r .0) (go l i (omega arith) (r .1) f)
+
+  pub any-found : (l : List A) (i : ℕ) (d : A) → i < length l → p (getD l i d) ≡ true → any p l ≡ true
+  unfolding any
+  any-found [] i d h e = absurd (omega arith)
+  any-found (x ∷ l) zero d h e = rw e
+  any-found (x ∷ l) (suc i) d h e = go (p x) (any-found l i d (omega arith) e)
+    where
+      go : (b : Bool) → any p l ≡ true → b || any p l ≡ true
+      go true r = refl
+      go false r = r
+
+  pub any-none : (l : List A) (i : ℕ) → length l ≤ i → any p (take i l) ≡ false → any p l ≡ false
+  unfolding any
+  any-none [] i h e = refl
+  any-none (x ∷ l) zero h e = absurd (omega arith)
+  any-none (x ∷ l) (suc i) h e = let r = or-false (p x) (any p (take i l)) e in rw (r .0) (any-none l i (omega arith) (r .1))
+
+-- the numbers below n, seen up to i
+module _ (p : ℕ → Bool) where
+  pub any-upTo-next : (i : ℕ) → any p (upTo i) ≡ false → p i ≡ false → any p (upTo (i + 1)) ≡ false
+  unfolding upTo any
+  any-upTo-next i e f = rw (add-one i, any-append p (upTo i) (i ∷ []), e, f)
+
+  pub any-upTo-found : (n i : ℕ) → i < n → p i ≡ true → any p (upTo n) ≡ true
+  any-upTo-found n i h e = true-any p (mem-upTo n i h) e
