@@ -2,7 +2,6 @@
 use mathlib.Core.Path.{_≡_, refl, ap}
 use mathlib.Core.Logic.{_≢_}
 use mathlib.Core.Bool.{Bool, true, false, not, _||_}
-use mathlib.Core.List.{List, [], _∷_}
 use Prim.Native.Nat.{ℕ, _%_, _<_, _≤_}
 use lib.ListN.{length}
 use lib.Dec.{leb, ltb, eqb, eqb→eq, eqb-refl}
@@ -10,7 +9,7 @@ use lib.Ieee.{Float, inf, lt, neg, isNan}
 use borrow.Author.Tests.{ltb-false, leb-false, eqb-true, eqb-false, le-ltb, lt-leb, eq-eqb, ne-eqb}
 use Rattle.sums.specs.Lists.{upTo, any, turned}
 use Rattle.sums.proofs.Sums.{All, all-at, all-mono, all-flatMap}
-use Rattle.sums.proofs.Tests.{not-false, or-false, any-false}
+use Rattle.sums.proofs.Tests.{not-false, or-false, any-false, false-any}
 use Rattle.sums.proofs.UpTo.{all-upTo, mem-upTo}
 use Rattle.sums.proofs.Closed.{closed-of-all}
 use Rattle.points.specs.declared.Point.{Point}
@@ -65,11 +64,6 @@ unfolding half-edges
 all-half-edges P s a = all-flatMap P (facet-half-edges s) (upTo (facets s)) (all-upTo (λ f. All P (facet-half-edges s f)) (facets s) a)
 
 -- ---- check by check
-false-any : {A : Type 0} (p : A → Bool) (l : List A) → All (λ x. p x ≡ false) l → any p l ≡ false
-unfolding any
-false-any p [] a = refl
-false-any p (x ∷ l) a = rw (a .0) (false-any p l (a .1))
-
 not-high : (n p q r : ℕ) → too-high n p q r ≡ false → (p < n) × (q < n) × (r < n)
 unfolding too-high
 not-high n p q r e =
@@ -103,7 +97,7 @@ module _ (s : Solid) where
   unfolding too-many
   few-back a b = rw (le-ltb 128 (vertices s) a, le-ltb 256 (facets s) b)
 
-  fine : (f : ℕ) → faulty s f ≡ false → Proper (vertices s) (corner s f 0) (corner s f 1) (corner s f 2)
+  pub fine : (f : ℕ) → faulty s f ≡ false → Proper (vertices s) (corner s f 0) (corner s f 1) (corner s f 2)
   unfolding faulty
   fine f e =
       let p = corner s f 0 in
@@ -123,10 +117,10 @@ module _ (s : Solid) where
       let n = vertices s in
       rw (lt-leb n p (h .below-p), lt-leb n q (h .below-q), lt-leb n r (h .below-r), ne-eqb p q (h .apart-pq), ne-eqb q r (h .apart-qr), ne-eqb r p (h .apart-rp))
 
-  abbrev Matched : Half → Type 0
+  abbrev pub Matched : Half → Type 0
   Matched h = number-of h (half-edges s) ≡ number-of (turned h) (half-edges s)
 
-  matched : (h : Half) → differ (half-edges s) h ≡ false → Matched h
+  pub matched : (h : Half) → differ (half-edges s) h ≡ false → Matched h
   unfolding differ
   matched h e = eqb-true _ _ (not-false _ e)
 
@@ -141,7 +135,7 @@ module _ (s : Solid) where
           matched h (all-at (λ h. differ (half-edges s) h ≡ false) (mem-pairs (vertices s) h (b .start) (b .end))
           (any-false (differ (half-edges s)) (pairs (vertices s)) e))
 
-  shut-back : ((h : Half) → Matched h) → any (differ (half-edges s)) (pairs (vertices s)) ≡ false
+  pub shut-back : ((h : Half) → Matched h) → any (differ (half-edges s)) (pairs (vertices s)) ≡ false
   unfolding differ
   shut-back c =
       false-any (differ (half-edges s)) (pairs (vertices s))

@@ -7,3 +7,4 @@ pub mod Around
 pub mod Limit
 pub mod Blank
 pub mod Tally
+pub mod Closure

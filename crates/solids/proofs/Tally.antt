@@ -1,23 +1,27 @@
 -- The table of half-edge counts: one half-edge more, and how much a table of few half-edges holds.
-use mathlib.Core.Path.{_≡_, refl, sym, ap, ap₂, _∙_}
+use mathlib.Core.Path.{_≡_, refl, sym, ap, _∙_}
 use mathlib.Core.Logic.{_≢_}
 use mathlib.Core.Bool.{Bool, true, false}
 use mathlib.Core.List.{List, [], _∷_, _++_, flatMap}
-use Prim.Native.Nat.{ℕ, zero, suc, _+_, _*_, _<_, _≤_}
+use Prim.Native.Nat.{ℕ, zero, suc, _+_, _*_, _<_, _≤_, _/_}
 use native.Mathlib.Omega.{arith}
 use native.Mathlib.Nat.{add-zero}
 use native.Mathlib.Numerals.{add-one}
-use lib.Dec.{T, eqb, eqb→eq, eqb-refl}
-use lib.ListN.{length, getD, set, length-set, length-append}
+use lib.Dec.{eqb, eqb→eq, eqb-refl}
+use lib.ListN.{length, getD, set, length-set, length-append, replicate, length-replicate, getD-replicate}
 use lib.Seq.{getD-set-same, getD-set-other}
 use Rattle.sums.specs.Lists.{times, one-if, upTo}
 use Rattle.sums.proofs.Tests.{T-of, of-T, never}
 use Rattle.sums.proofs.Closed.{times-append, same-half-sound, same-half-self}
 use Rattle.sums.proofs.UpTo.{flat-upTo-suc}
-use Rattle.solids.specs.Solids.{Half, solid, same-half, number-of, facet-half-edges, corner}
-use Rattle.solids.specs.Table.{place, Tallied, counted}
+use Rattle.solids.specs.Solids.{Half, solid, same-half, number-of, facet-half-edges}
+use Rattle.solids.specs.Table.{place, Tallied, Low, counted}
 
--- ---- one half-edge more
+-- ---- a table of zeros, and one half-edge more
+pub tallied-none : Tallied (replicate 16384 0) []
+unfolding times
+tallied-none = record { size = length-replicate {A = ℕ} 16384 0; at = λ h a b. getD-replicate {A = ℕ} 16384 (place h) 0 0 (omega arith) }
+
 place-apart : (h k : Half) → h .1 < 128 → k .1 < 128 → same-half k h ≡ false → place k ≢ place h
 place-apart h k a b e q = never (same-half k h) (of-T (same-half k h) (rw (both) (same-half-self eqb eqb→eq eqb-refl h))) e
   where
@@ -71,3 +75,10 @@ counted-length corners zero = omega arith
 counted-length corners (suc f) =
     ap length (flat-upTo-suc (facet-half-edges (solid [] corners)) f) ∙ length-append (counted corners f) (facet-half-edges (solid [] corners) f)
     ∙ (let e = counted-length corners f in omega arith)
+
+-- ---- a facet's corners find their rows, at the places where the code reads them
+pub low-at : (corners : List ℕ) (f k : ℕ) → Low corners → f < length corners / 3 → k < 3 → getD corners (3 * f + k) 0 < 128
+low-at corners f k low h d = low (3 * f + k) (omega arith)
+
+pub low-first : (corners : List ℕ) (f : ℕ) → Low corners → f < length corners / 3 → getD corners (3 * f) 0 < 128
+low-first corners f low h = low (3 * f) (omega arith)

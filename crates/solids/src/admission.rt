@@ -1,6 +1,7 @@
 // The checks 1 to 6 on one solid, in document 01's order.
 use crate::table;
 ghost use mathlib.Core.Path.{_≡_};
+ghost use mathlib.Core.List.{[]};
 ghost use Prim.Native.Nat.{_+_, _*_, _/_, _%_, _<_, _≤_};
 ghost use lib.ListN.{length};
 ghost use lib.Ieee.{isNan};
@@ -98,4 +99,41 @@ fn some_faulty(points: &[f64], corners: &[u32]) -> bool
         f += 1;
     }
     false
+}
+
+fn unmatched(corners: &[u32]) -> bool
+    requires { ⌜ Ta.Low (now corners) × (length (now corners) ≤ 768) ⌝ }
+    ensures { λ r. ⌜ r ≡ any (Ad.differ (So.half-edges (So.solid [] (now (corners .entry))))) (So.half-edges (So.solid [] (now (corners .entry)))) ⌝ }
+{
+    let mut counts = [0u16; 16384];
+    table::tally(&mut counts, corners);
+    table::some_differ(&counts, corners)
+}
+
+// The answer of admission: 0, or the number of the first check that refuses.
+pub fn admit(points: &[f64], corners: &[u32]) -> u32
+    ensures { λ r. ⌜ r ≡ Re.answer (Ad.admission (So.solid (now (points .entry)) (now (corners .entry)))) ⌝ }
+{
+    if points.len() % 3 != 0 {
+        return 1;
+    }
+    if corners.len() % 3 != 0 {
+        return 1;
+    }
+    if points.len() / 3 > 128 {
+        return 2;
+    }
+    if corners.len() / 3 > 256 {
+        return 2;
+    }
+    if some_bad(true, points) {
+        return 3;
+    }
+    if some_bad(false, points) {
+        return 4;
+    }
+    if some_faulty(points, corners) {
+        return 5;
+    }
+    if unmatched(corners) { 6 } else { 0 }
 }

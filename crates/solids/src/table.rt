@@ -3,6 +3,7 @@ ghost use mathlib.Core.Path.{_≡_};
 ghost use mathlib.Core.List.{[]};
 ghost use Prim.Native.Nat.{_+_, _*_, _/_, _<_, _≤_};
 ghost use lib.ListN.{length, getD, set};
+ghost use Rattle.sums.specs.Lists.{any, upTo};
 ghost use Rattle.solids.specs.Solids as So;
 ghost use Rattle.solids.specs.Admission as Ad;
 ghost use Rattle.solids.specs.Table as Ta;
@@ -62,4 +63,35 @@ fn differ(table: &[u16; 16384], corners: &[u32], p: u32, q: u32) -> bool
     } else {
         true
     }
+}
+
+// Does one of the three half-edges of facet f differ from its way back in number?
+fn facet_differs(table: &[u16; 16384], corners: &[u32], f: usize) -> bool
+    requires { ⌜ Ta.Low (now corners) × (f < length (now corners) / 3) × Ta.Tallied (now table) (So.half-edges (So.solid [] (now corners))) ⌝ }
+    ensures { λ r. ⌜ r ≡ any (Ad.differ (So.half-edges (So.solid [] (now (corners .entry))))) (So.facet-half-edges (So.solid [] (now (corners .entry))) f) ⌝ }
+{
+    let p = corners[3 * f];
+    let q = corners[3 * f + 1];
+    let r = corners[3 * f + 2];
+    if differ(table, corners, p, q) {
+        true
+    } else if differ(table, corners, q, r) {
+        true
+    } else {
+        differ(table, corners, r, p)
+    }
+}
+
+pub fn some_differ(table: &[u16; 16384], corners: &[u32]) -> bool
+    requires { ⌜ Ta.Low (now corners) × Ta.Tallied (now table) (So.half-edges (So.solid [] (now corners))) ⌝ }
+    ensures { λ r. ⌜ r ≡ any (λ f. any (Ad.differ (So.half-edges (So.solid [] (now (corners .entry))))) (So.facet-half-edges (So.solid [] (now (corners .entry))) f)) (upTo (length (now (corners .entry)) / 3)) ⌝ }
+{
+    let mut f = 0;
+    while f < corners.len() / 3 {
+        if facet_differs(table, corners, f) {
+            return true;
+        }
+        f += 1;
+    }
+    false
 }

@@ -1,7 +1,7 @@
 -- Searches: what a loop that looks for the first that passes a test knows at each turn, over a list and over the numbers below n.
-use mathlib.Core.Path.{_≡_, refl, sym, ap, _∙_}
+use mathlib.Core.Path.{_≡_, refl, ap, _∙_}
 use mathlib.Core.Bool.{Bool, true, false, _||_}
-use mathlib.Core.List.{List, [], _∷_, _++_}
+use mathlib.Core.List.{List, [], _∷_, _++_, flatMap}
 use Prim.Native.Nat.{ℕ, zero, suc, _+_, _<_, _≤_}
 use native.Mathlib.Omega.{arith}
 use native.Mathlib.Numerals.{add-one}
@@ -45,6 +45,12 @@ module _ {A : Type 0} (p : A → Bool) where
   any-none [] i h e = refl
   any-none (x ∷ l) zero h e = absurd (omega arith)
   any-none (x ∷ l) (suc i) h e = let r = or-false (p x) (any p (take i l)) e in rw (r .0) (any-none l i (omega arith) (r .1))
+
+-- through lists put together from lists
+pub any-flatMap : {A B : Type 0} (p : B → Bool) (g : A → List B) (l : List A) → any p (flatMap g l) ≡ any (λ x. any p (g x)) l
+unfolding any flatMap
+any-flatMap p g [] = refl
+any-flatMap p g (x ∷ l) = any-append p (g x) (flatMap g l) ∙ ap (λ b. any p (g x) || b) (any-flatMap p g l)
 
 -- the numbers below n, seen up to i
 module _ (p : ℕ → Bool) where

@@ -75,6 +75,11 @@ module _ {A : Type 0} (p : A → Bool) where
   any-false [] h = tt
   any-false (x ∷ l) h = let r = or-false (p x) (any p l) h in (r .0, any-false l (r .1))
 
+  pub false-any : (l : List A) → All (λ x. p x ≡ false) l → any p l ≡ false
+  unfolding any
+  false-any [] a = refl
+  false-any (x ∷ l) a = rw (a .0) (false-any l (a .1))
+
   pub any-true : (l : List A) → any p l ≡ true → (x : A) × List·Memᴰ x l × (p x ≡ true)
   unfolding any
   any-true [] h = absurd (true≢false (sym h))

@@ -2,10 +2,7 @@
 use Rattle.solids.proofs.Blank.{blank-test}
 use Rattle.solids.proofs.admission.blank.Statement.{statement}
 use Rattle.solids.proofs.admission.blank.Tie as tie
-use Rattle.solids.proofs.admission.blank.Reads as reads
-use Rattle.solids.proofs.admission.blank.Lts as lts
 
--- src/admission.rt:14:1
 returns : tie.Need-returns
 returns c = blank-test (c .args .x)
 

@@ -3,20 +3,15 @@ use borrow.Author.Tests.{eq-eqb, ne-eqb}
 use Rattle.solids.specs.Admission.{named-twice}
 use Rattle.solids.proofs.admission.named_twice.Statement.{statement}
 use Rattle.solids.proofs.admission.named_twice.Tie as tie
-use Rattle.solids.proofs.admission.named_twice.Reads as reads
-use Rattle.solids.proofs.admission.named_twice.Lts as lts
 
--- src/admission.rt:64:1
 returns : tie.Need-returns
 unfolding named-twice
 returns c = rw (eq-eqb _ _ (c .if1 .taken))
 
--- src/admission.rt:64:1
 returns-2 : tie.Need-returns-2
 unfolding named-twice
 returns-2 c = rw (ne-eqb _ _ (c .before .if1 .left), eq-eqb _ _ (c .if2 .taken))
 
--- src/admission.rt:64:1
 returns-3 : tie.Need-returns-3
 unfolding named-twice
 returns-3 c = rw (ne-eqb _ _ (c .before .if1 .left), ne-eqb _ _ (c .if2 .left))

@@ -11,9 +11,6 @@ use Rattle.solids.specs.Table.{bad}
 use borrow.Author.Needs.{needs}
 use Rattle.solids.proofs.admission.some_bad.Statement.{statement}
 use Rattle.solids.proofs.admission.some_bad.Tie as tie
-use Rattle.solids.proofs.admission.some_bad.Reads as reads
-use Rattle.solids.proofs.admission.some_bad.Lts as lts
-use Rattle.solids.proofs.admission.bad.Reads as bad-reads
 
 abbrev Inv-loop : tie.InvT-loop
 Inv-loop blanks points i₀ i = (i ≤ length points) × (any (bad blanks) (take i points) ≡ false)
@@ -21,40 +18,31 @@ Inv-loop blanks points i₀ i = (i ≤ length points) × (any (bad blanks) (take
 abbrev μ-loop : tie.MeasureT-loop
 μ-loop blanks points i₀ i = length points - i
 
--- src/admission.rt:37:5
 loop-holds : tie.Need-loop-holds Inv-loop μ-loop
 unfolding any
 loop-holds c = (omega arith, refl)
 
--- src/admission.rt:38:24
 mul-bad : tie.Need-mul-bad Inv-loop μ-loop
 mul-bad c = search needs
 
--- src/admission.rt:38:24
 shared-slice-read-bad : tie.Need-shared-slice-read-bad Inv-loop μ-loop
 shared-slice-read-bad c = search needs
 
--- src/admission.rt:38:12
 bad-requires : tie.Need-bad-requires Inv-loop μ-loop
 bad-requires c κs = search needs
 
--- src/admission.rt:39:13
 returns : tie.Need-returns Inv-loop μ-loop
 returns c = let l = c .before .before .before .before in let xs = l .before .before .args .points .now in sym (any-found (bad (l .before .before .args .blanks)) xs (l .loop .i) nan (c .before .before .before .loop-test .taken) (sym (c .before .bad .ensures) ∙ c .if1 .taken))
 
--- src/admission.rt:41:9
 add-i : tie.Need-add-i Inv-loop μ-loop
 add-i c = search needs
 
--- src/admission.rt:37:5
 loop-less : tie.Need-loop-less Inv-loop μ-loop
 loop-less c = search needs
 
--- src/admission.rt:37:5
 loop-again : tie.Need-loop-again Inv-loop μ-loop
 loop-again c = let l = c .before .before .before .before in let xs = l .before .before .args .points .now in (omega arith, any-next (bad (l .before .before .args .blanks)) xs (l .loop .i) nan (c .before .before .before .loop-test .taken) (l .loop .inv .1) (sym (c .before .bad .ensures) ∙ c .if1 .left))
 
--- src/admission.rt:33:1
 returns-2 : tie.Need-returns-2 Inv-loop μ-loop
 returns-2 c = let l = c .before in sym (any-none (bad (l .before .before .args .blanks)) (l .before .before .args .points .now) (l .loop .i) (c .loop-test .left) (l .loop .inv .1))
 

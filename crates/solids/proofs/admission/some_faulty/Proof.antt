@@ -12,9 +12,6 @@ use Rattle.solids.specs.Admission.{faulty}
 use borrow.Author.Needs.{needs}
 use Rattle.solids.proofs.admission.some_faulty.Statement.{statement}
 use Rattle.solids.proofs.admission.some_faulty.Tie as tie
-use Rattle.solids.proofs.admission.some_faulty.Reads as reads
-use Rattle.solids.proofs.admission.some_faulty.Lts as lts
-use Rattle.solids.proofs.admission.faulty.Reads as faulty-reads
 
 abbrev Inv-loop : tie.InvT-loop
 Inv-loop points corners f₀ f = (f ≤ length corners / 3) × (any (faulty (solid points corners)) (upTo f) ≡ false)
@@ -22,32 +19,25 @@ Inv-loop points corners f₀ f = (f ≤ length corners / 3) × (any (faulty (sol
 abbrev μ-loop : tie.MeasureT-loop
 μ-loop points corners f₀ f = length corners / 3 - f
 
--- src/admission.rt:94:5
 loop-holds : tie.Need-loop-holds Inv-loop μ-loop
 unfolding any upTo
 loop-holds c = (omega arith, refl)
 
--- src/admission.rt:95:12
 faulty-requires : tie.Need-faulty-requires Inv-loop μ-loop
 faulty-requires c κs = search needs
 
--- src/admission.rt:96:13
 returns : tie.Need-returns Inv-loop μ-loop
 returns c = let l = c .before .before .before in let a = l .before .before .before .args in sym (any-upTo-found (faulty (solid (a .points .now) (a .corners .now))) (length (a .corners .now) / 3) (l .loop .f) (c .before .before .loop-test .taken) (sym (c .before .faulty .ensures) ∙ c .if1 .taken))
 
--- src/admission.rt:98:9
 add-f : tie.Need-add-f Inv-loop μ-loop
 add-f c = search needs
 
--- src/admission.rt:94:5
 loop-less : tie.Need-loop-less Inv-loop μ-loop
 loop-less c = search needs
 
--- src/admission.rt:94:5
 loop-again : tie.Need-loop-again Inv-loop μ-loop
 loop-again c = let l = c .before .before .before in let a = l .before .before .before .args in (omega arith, any-upTo-next (faulty (solid (a .points .now) (a .corners .now))) (l .loop .f) (l .loop .inv .1) (sym (c .before .faulty .ensures) ∙ c .if1 .left))
 
--- src/admission.rt:90:1
 returns-2 : tie.Need-returns-2 Inv-loop μ-loop
 returns-2 c = let l = c .before in sym (rw (le-antisymm (c .loop-test .left) (l .loop .inv .0)) (l .loop .inv .1))
 

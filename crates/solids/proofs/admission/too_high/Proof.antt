@@ -6,33 +6,24 @@ use Rattle.solids.specs.Admission.{too-high}
 use borrow.Author.Needs.{needs}
 use Rattle.solids.proofs.admission.too_high.Statement.{statement}
 use Rattle.solids.proofs.admission.too_high.Tie as tie
-use Rattle.solids.proofs.admission.too_high.Reads as reads
-use Rattle.solids.proofs.admission.too_high.Lts as lts
-use Rattle.solids.proofs.admission.wide.Reads as wide-reads
 
--- src/admission.rt:55:13
 wide-requires : tie.Need-wide-requires
 wide-requires c κs = search needs
 
--- src/admission.rt:57:20
 wide-requires-2 : tie.Need-wide-requires-2
 wide-requires-2 c κs = search needs
 
--- src/admission.rt:60:14
 wide-requires-3 : tie.Need-wide-requires-3
 wide-requires-3 c κs = search needs
 
--- src/admission.rt:52:1
 returns : tie.Need-returns
 unfolding too-high
 returns c = let h : c .before .before .args .n ≤ c .before .before .args .p = omega arith in rw (le-leb _ _ h)
 
--- src/admission.rt:52:1
 returns-2 : tie.Need-returns-2
 unfolding too-high
 returns-2 c = let a = c .before .before .before .before .args in let g : a .p < a .n = omega arith in let h : a .n ≤ a .q = omega arith in rw (lt-leb _ _ g, le-leb _ _ h)
 
--- src/admission.rt:52:1
 returns-3 : tie.Need-returns-3
 unfolding too-high
 returns-3 c = let a = c .before .before .before .before .before .args in let g : a .p < a .n = omega arith in let h : a .q < a .n = omega arith in rw (lt-leb _ _ g, lt-leb _ _ h, c .wide3 .ensures)

@@ -3,35 +3,25 @@ use native.Mathlib.Omega.{arith}
 use borrow.Author.Needs.{needs}
 use Rattle.solids.proofs.table.count.Statement.{statement}
 use Rattle.solids.proofs.table.count.Tie as tie
-use Rattle.solids.proofs.table.count.Reads as reads
-use Rattle.solids.proofs.table.count.Lts as lts
-use Rattle.solids.proofs.table.place.Reads as place-reads
 
--- src/table.rt:23:9
 place-requires : tie.Need-place-requires
 place-requires c κs = search needs
 
--- src/table.rt:24:17
 mul-table : tie.Need-mul-table
 mul-table c = search needs
 
--- src/table.rt:24:17
 element-copy-out-table : tie.Need-element-copy-out-table
 element-copy-out-table c = search needs
 
--- src/table.rt:24:17
 add-table : tie.Need-add-table
 add-table c = let e = c .before .place .ensures .0 in rw e (omega (arith, c .before .before .pre))
 
--- src/table.rt:24:5
 mul-table-2 : tie.Need-mul-table-2
 mul-table-2 c = search needs
 
--- src/table.rt:24:5
 element-write-table : tie.Need-element-write-table
 element-write-table c = search needs
 
--- src/table.rt:19:1
 returns : tie.Need-returns
 returns c = rw (c .before .place .ensures .0)
 

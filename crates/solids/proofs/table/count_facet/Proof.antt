@@ -1,71 +1,56 @@
 -- `count_facet` meets its contract: each half-edge in turn is one more in the table.
-use mathlib.Core.Path.{_≡_, refl, sym, ap, _∙_, subst}
+use mathlib.Core.Path.{_≡_, sym, subst}
 use mathlib.Core.List.{List, [], _∷_, _++_, append-assoc}
 use Prim.Native.Nat.{ℕ, _+_, _*_, _<_, _≤_}
 use native.Mathlib.Omega.{arith}
 use native.Mathlib.Nat.{add-zero}
 use lib.ListN.{length, getD, length-append}
-use Rattle.solids.specs.Solids.{Half, corner, solid}
-use Rattle.solids.specs.Table.{place, Tallied, Low, counted}
-use Rattle.solids.proofs.Tally.{tallied-next, tallied-few, counted-next, counted-length}
+use Rattle.solids.specs.Solids.{Half}
+use Rattle.solids.specs.Table.{place, Tallied, counted}
+use Rattle.solids.proofs.Tally.{tallied-next, tallied-few, counted-next, counted-length, low-at, low-first}
 use borrow.Author.Needs.{needs}
 use Rattle.solids.proofs.table.count_facet.Statement.{statement}
 use Rattle.solids.proofs.table.count_facet.Tie as tie
-use Rattle.solids.proofs.table.count_facet.Reads as reads
-use Rattle.solids.proofs.table.count_facet.Lts as lts
-use Rattle.solids.proofs.table.count.Reads as count-reads
 
--- src/table.rt:33:21
 mul-p : tie.Need-mul-p
 mul-p c = search needs
 
--- src/table.rt:33:13
 mul-p-2 : tie.Need-mul-p-2
 mul-p-2 c = search needs
 
--- src/table.rt:33:13
 shared-slice-read-p : tie.Need-shared-slice-read-p
 shared-slice-read-p c = search needs
 
--- src/table.rt:34:21
 mul-q : tie.Need-mul-q
 mul-q c = search needs
 
--- src/table.rt:34:21
 add-q : tie.Need-add-q
 add-q c = search needs
 
--- src/table.rt:34:13
 mul-q-2 : tie.Need-mul-q-2
 mul-q-2 c = search needs
 
--- src/table.rt:34:13
 shared-slice-read-q : tie.Need-shared-slice-read-q
 shared-slice-read-q c = search needs
 
--- src/table.rt:35:21
 mul-r : tie.Need-mul-r
 mul-r c = search needs
 
--- src/table.rt:35:21
 add-r : tie.Need-add-r
 add-r c = search needs
 
--- src/table.rt:35:13
 mul-r-2 : tie.Need-mul-r-2
 mul-r-2 c = search needs
 
--- src/table.rt:35:13
 shared-slice-read-r : tie.Need-shared-slice-read-r
 shared-slice-read-r c = search needs
 
--- src/table.rt:36:5
--- the three corners, as the code reads them, find their rows
+-- the three corners find their rows
 low : (s : tie.Start) (k : ℕ) → k < 3 → getD (s .args .corners .now) (3 * s .args .f + k) 0 < 128
-low s k h = s .pre .0 .0 (3 * s .args .f + k) (omega arith)
+low s k h = low-at (s .args .corners .now) (s .args .f) k (s .pre .0 .0) (s .pre .0 .1) h
 
-low-first : (s : tie.Start) → getD (s .args .corners .now) (3 * s .args .f) 0 < 128
-low-first s = s .pre .0 .0 (3 * s .args .f) (omega arith)
+lowest : (s : tie.Start) → getD (s .args .corners .now) (3 * s .args .f) 0 < 128
+lowest s = low-first (s .args .corners .now) (s .args .f) (s .pre .0 .0) (s .pre .0 .1)
 
 abbrev pq : tie.Start → Half
 pq s = (getD (s .args .corners .now) (3 * s .args .f) 0, getD (s .args .corners .now) (3 * s .args .f + 1) 0)
@@ -91,12 +76,12 @@ two s h k = omega (arith, length-append (so-far s ++ (h ∷ [])) (k ∷ []), one
 count-requires : tie.Need-count-requires
 count-requires c κs =
     let s = c .before .before .before .before .before in
-    (low-first s, low s 1 (omega arith), few s _ (so-far s) (pq s) (omega (arith, counted-length (s .args .corners .now) (s .args .f))) (low-first s) (low s 1 (omega arith)) (s .pre .1))
+    (lowest s, low s 1 (omega arith), few s _ (so-far s) (pq s) (omega (arith, counted-length (s .args .corners .now) (s .args .f))) (lowest s) (low s 1 (omega arith)) (s .pre .1))
 
 after-pq : (c : tie.After-count) → let s = c .before .before .before .before .before .before in Tallied (c .count .last .0) (so-far s ++ (pq s ∷ []))
 after-pq c =
     let s = c .before .before .before .before .before .before in
-    subst (λ t. Tallied t (so-far s ++ (pq s ∷ []))) (sym (c .count .ensures)) (tallied-next _ (so-far s) (pq s) (low-first s) (low s 1 (omega arith)) (s .pre .1))
+    subst (λ t. Tallied t (so-far s ++ (pq s ∷ []))) (sym (c .count .ensures)) (tallied-next _ (so-far s) (pq s) (lowest s) (low s 1 (omega arith)) (s .pre .1))
 
 count-requires-2 : tie.Need-count-requires-2
 count-requires-2 c κs =
@@ -112,14 +97,14 @@ after-qr c =
 count-requires-3 : tie.Need-count-requires-3
 count-requires-3 c κs =
     let s = c .before .before .before .before .before .before .before .before .before in
-    (low s 2 (omega arith), low-first s, few s _ ((so-far s ++ (pq s ∷ [])) ++ (qr s ∷ [])) (rp s) (omega (arith, two s (pq s) (qr s))) (low s 2 (omega arith)) (low-first s) (after-qr (c .before)))
+    (low s 2 (omega arith), lowest s, few s _ ((so-far s ++ (pq s ∷ [])) ++ (qr s ∷ [])) (rp s) (omega (arith, two s (pq s) (qr s))) (low s 2 (omega arith)) (lowest s) (after-qr (c .before)))
 
 returns : tie.Need-returns
 returns c =
     let s = c .before .before .before .before .before .before .before .before .before .before in
     subst (λ t. Tallied t (counted (s .args .corners .now) (s .args .f + 1))) (sym (c .count3 .ensures))
     (subst (Tallied _) (next s)
-    (tallied-next _ ((so-far s ++ (pq s ∷ [])) ++ (qr s ∷ [])) (rp s) (low s 2 (omega arith)) (low-first s) (after-qr (c .before .before))))
+    (tallied-next _ ((so-far s ++ (pq s ∷ [])) ++ (qr s ∷ [])) (rp s) (low s 2 (omega arith)) (lowest s) (after-qr (c .before .before))))
   where
     next : (s : tie.Start) → ((so-far s ++ (pq s ∷ [])) ++ (qr s ∷ [])) ++ (rp s ∷ []) ≡ counted (s .args .corners .now) (s .args .f + 1)
     next s = simp append-assoc (sym (simp add-zero at (counted-next (s .args .corners .now) (s .args .f))))

@@ -1,47 +1,37 @@
 -- `differ` meets its contract: the two counts stand in the table.
-use mathlib.Core.Path.{_≡_, sym, ap₂}
+use mathlib.Core.Path.{_≡_}
 use mathlib.Core.Bool.{not}
 use lib.Dec.{eqb}
 use lib.ListN.{getD}
 use mathlib.Core.List.{[]}
 use borrow.Author.Tests.{eq-eqb, ne-eqb}
-use Rattle.sums.specs.Lists.{turned}
 use Rattle.solids.specs.Solids.{solid, half-edges}
 use Rattle.solids.specs.Admission as Ad
 use Rattle.solids.specs.Table.{place}
 use borrow.Author.Needs.{needs}
 use Rattle.solids.proofs.table.differ.Statement.{statement}
 use Rattle.solids.proofs.table.differ.Tie as tie
-use Rattle.solids.proofs.table.differ.Reads as reads
-use Rattle.solids.proofs.table.differ.Lts as lts
-use Rattle.solids.proofs.table.place.Reads as place-reads
 
--- src/table.rt:58:9
 place-requires : tie.Need-place-requires
 place-requires c κs = search needs
 
--- src/table.rt:59:9
 place-requires-2 : tie.Need-place-requires-2
 place-requires-2 c κs = search needs
 
--- src/table.rt:60:8
 mul-if1 : tie.Need-mul-if1
 mul-if1 c = search needs
 
--- src/table.rt:60:8
 element-copy-out-if1 : tie.Need-element-copy-out-if1
 element-copy-out-if1 c = search needs
 
--- src/table.rt:60:24
 mul-if1-2 : tie.Need-mul-if1-2
 mul-if1-2 c = search needs
 
--- src/table.rt:60:24
 element-copy-out-if1-2 : tie.Need-element-copy-out-if1-2
 element-copy-out-if1-2 c = search needs
 
 numbers :
-  (s : tie.Start)
+    (s : tie.Start)
     → Ad.differ (half-edges (solid [] (s .args .corners .now))) (s .args .p, s .args .q)
     ≡ not (eqb (getD (s .args .table .now) (place (s .args .p, s .args .q)) 0) (getD (s .args .table .now) (place (s .args .q, s .args .p)) 0))
 unfolding Ad.differ
@@ -49,11 +39,9 @@ numbers s =
     let t = s .pre .2 in
     rw (t .at (s .args .p, s .args .q) (s .pre .0) (s .pre .1), t .at (s .args .q, s .args .p) (s .pre .1) (s .pre .0))
 
--- src/table.rt:54:1
 returns : tie.Need-returns
 returns c = let s = c .before .before .before .before .before .before in rw (numbers s, ← c .before .before .before .before .place .ensures .0, ← c .before .before .before .place2 .ensures .0, eq-eqb _ _ (c .if1 .taken))
 
--- src/table.rt:54:1
 returns-2 : tie.Need-returns-2
 returns-2 c = let s = c .before .before .before .before .before .before in rw (numbers s, ← c .before .before .before .before .place .ensures .0, ← c .before .before .before .place2 .ensures .0, ne-eqb _ _ (c .if1 .left))
 

@@ -11,9 +11,6 @@ use Rattle.solids.specs.Table.{Tallied, counted}
 use borrow.Author.Needs.{needs}
 use Rattle.solids.proofs.table.tally.Statement.{statement}
 use Rattle.solids.proofs.table.tally.Tie as tie
-use Rattle.solids.proofs.table.tally.Reads as reads
-use Rattle.solids.proofs.table.tally.Lts as lts
-use Rattle.solids.proofs.table.count_facet.Reads as count-facet-reads
 
 abbrev Inv-loop : tie.InvT-loop
 Inv-loop table₀ corners f₀ table f = (f ≤ length corners / 3) × Tallied table (counted corners f)
@@ -21,28 +18,22 @@ Inv-loop table₀ corners f₀ table f = (f ≤ length corners / 3) × Tallied t
 abbrev μ-loop : tie.MeasureT-loop
 μ-loop table₀ corners f₀ table f = length corners / 3 - f
 
--- src/table.rt:47:5
 loop-holds : tie.Need-loop-holds Inv-loop μ-loop
 unfolding counted upTo flatMap
 loop-holds c = (omega arith, c .before .pre .2)
 
--- src/table.rt:48:9
 count-facet-requires : tie.Need-count-facet-requires Inv-loop μ-loop
 count-facet-requires c κs = let s = c .before .before .before .before in ((s .pre .0, c .before .loop-test .taken, s .pre .1), c .before .before .loop .inv .1)
 
--- src/table.rt:49:9
 add-f : tie.Need-add-f Inv-loop μ-loop
 add-f c = search needs
 
--- src/table.rt:47:5
 loop-less : tie.Need-loop-less Inv-loop μ-loop
 loop-less c = search needs
 
--- src/table.rt:47:5
 loop-again : tie.Need-loop-again Inv-loop μ-loop
 loop-again c = (omega arith, c .count-facet .ensures)
 
--- src/table.rt:42:1
 returns : tie.Need-returns Inv-loop μ-loop
 unfolding half-edges counted
 returns c = let l = c .before in let cs = l .before .before .args .corners .now in subst (λ n. Tallied (l .loop .table) (counted cs n)) (le-antisymm (l .loop .inv .0) (c .loop-test .left)) (l .loop .inv .1)
