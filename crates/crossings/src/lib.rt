@@ -1,6 +1,15 @@
-// The things that are paired, one of A with one of B, and what a pairing answers.
+// The things that are paired, one of A with one of B, and what a pairing answers. v is a vertex, e an edge, f a facet, A's thing first: `ef` is an
+// edge of A with a facet of B.
+use points::Axis;
 use points::Point;
 use points::PointPair;
+ghost use mathlib.Core.Path.{_≡_};
+ghost use mathlib.Core.Bool.{true, false, cond};
+ghost use Prim.Native.Nat.{_+_, _<_, _≤_, _^_};
+ghost use lib.IntN.{pos, natAbs, _+ℤ_};
+ghost use Rattle.sums.specs.Lists.{nonzero};
+ghost use Rattle.points.specs.Points as P;
+ghost use Rattle.crossings.specs.Crossings as C;
 
 // An edge starts at the end with the lower vertex number.
 pub struct Edge {
@@ -22,4 +31,127 @@ pub struct Facet {
 pub enum Crossing {
     Miss,
     Cross(i32, PointPair),
+}
+
+impl Crossing {
+    // X
+    pub fn count(self) -> i32
+        ensures { λ r. ⌜ r ≡ C.count self ⌝ }
+    {
+        match self {
+            Crossing::Miss => 0,
+            Crossing::Cross(n, _) => n,
+        }
+    }
+
+    // Where it misses, zeros: no result asks for them.
+    pub fn points(self) -> PointPair
+        ensures { λ r. ⌜ r ≡ C.points self ⌝ }
+    {
+        match self {
+            Crossing::Miss => {
+                let zero = Point {
+                    x: 0.0,
+                    y: 0.0,
+                    z: 0.0,
+                };
+                PointPair { a: zero, b: zero }
+            }
+            Crossing::Cross(_, w) => w,
+        }
+    }
+
+    // "S equals X if X is not 0 and B's coordinate at the pair of points is at least A's; otherwise S is 0."
+    pub fn s(self, k: Axis) -> i32
+        ensures { λ r. ⌜ r ≡ C.S k self ⌝ }
+        ensures small { λ r. ⌜ natAbs r ≤ natAbs (C.count self) ⌝ }
+    {
+        match self {
+            Crossing::Miss => 0,
+            Crossing::Cross(n, w) => if points::at_least(k, w) { n } else { 0 },
+        }
+    }
+
+    // "the negated value and the same points"
+    pub fn against(self) -> Crossing
+        requires { ⌜ natAbs (C.count self) < 2 ^ 31 ⌝ }
+        ensures { λ r. ⌜ r ≡ C.against self ⌝ }
+        ensures small { λ r. ⌜ natAbs (C.count r) ≤ natAbs (C.count self) ⌝ }
+    {
+        match self {
+            Crossing::Miss => Crossing::Miss,
+            Crossing::Cross(n, w) => Crossing::Cross(-n, w),
+        }
+    }
+
+    // What an edge's crossing is for a half-edge that runs along the edge or against it.
+    fn signed(self, along: bool) -> Crossing
+        requires { ⌜ natAbs (C.count self) < 2 ^ 31 ⌝ }
+        ensures { λ r. ⌜ r ≡ cond along self (C.against self) ⌝ }
+        ensures small { λ r. ⌜ natAbs (C.count r) ≤ natAbs (C.count self) ⌝ }
+    {
+        if along { self } else { self.against() }
+    }
+}
+
+// What a pairing takes from its lower pairings: the sum of their S, the first plus and the first minus (Miss where there is none). They are gathered
+// from the last to the first, so that each new one goes before those that were found.
+struct Gather {
+    sum: i32,
+    plus: Crossing,
+    minus: Crossing,
+}
+
+impl Gather {
+    fn empty() -> Gather
+        ensures { λ r. ⌜ r ≡ record { sum = pos 0; plus = Crossing.Miss; minus = Crossing.Miss } ⌝ }
+        ensures small { λ r. ⌜ natAbs (r .sum) ≤ 0 ⌝ }
+    {
+        Gather {
+            sum: 0,
+            plus: Crossing::Miss,
+            minus: Crossing::Miss,
+        }
+    }
+
+    // The lower pairing c goes before those that are gathered.
+    fn with(self, k: Axis, c: Crossing) -> Gather
+        requires { ⌜ natAbs (self .sum) + natAbs (C.count c) < 2 ^ 31 ⌝ }
+        ensures { λ r. ⌜ r ≡ record { sum = C.S k c +ℤ self .sum; plus = cond (C.lies k true c) c (self .plus); minus = cond (C.lies k false c) c (self .minus) } ⌝ }
+        ensures small { λ r. ⌜ natAbs (r .sum) ≤ natAbs (C.count c) + natAbs (self .sum) ⌝ }
+    {
+        match c {
+            Crossing::Miss => self,
+            Crossing::Cross(n, w) => {
+                let plus = self.plus;
+                let minus = self.minus;
+                if points::at_least(k, w) {
+                    Gather {
+                        sum: n + self.sum,
+                        plus: c,
+                        minus,
+                    }
+                } else {
+                    Gather {
+                        sum: self.sum,
+                        plus,
+                        minus: c,
+                    }
+                }
+            }
+        }
+    }
+
+    // Points are worked out only where the sum is not 0.
+    fn finish(self, k: Axis) -> Crossing
+        ensures { λ r. ⌜ r ≡ cond (nonzero (self .sum)) (Crossing.Cross (self .sum) (P.placed k (C.points (self .plus)) (C.points (self .minus)))) Crossing.Miss ⌝ }
+    {
+        let n = self.sum;
+        if n == 0 {
+            return Crossing::Miss;
+        }
+        let plus = self.plus;
+        let minus = self.minus;
+        Crossing::Cross(n, points::placed(k, plus.points(), minus.points()))
+    }
 }
