@@ -1,14 +1,14 @@
 -- `Gather::finish` meets its contract: a miss where the sum is 0, and else the points placed between plus and minus.
-use Rattle.crossings.proofs.Fits.{zero-not, not-zero}
-use mir.Val.{toZ, ofZ}
-use mir.Syntax.{w32}
 use mathlib.Core.Path.{_≡_}
-use borrow.Author.Needs.{needs, sfits-of}
+use mir.Syntax.{w32}
+use mir.Val.{toZ, ofZ}
+use Rattle.crossings.proofs.Fits.{zero-not, not-zero}
+use borrow.Author.Needs.{needs}
 use Rattle.crossings.proofs.Gather.finish.Statement.{statement}
 use Rattle.crossings.proofs.Gather.finish.Tie as tie
 
 returns : tie.Need-returns
-returns c = rw (zero-not (c .before .before .args .self .sum) (sfits-of (c .before .struct-told .given .0 .1)) (c .if1 .taken))
+returns c = rw (zero-not (c .before .before .args .self .sum) (search needs) (c .if1 .taken))
 
 points-requires : tie.Need-points-requires
 points-requires c κs = search needs

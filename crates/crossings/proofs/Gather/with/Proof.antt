@@ -1,13 +1,12 @@
--- `Gather::with` meets its contract: a miss changes nothing; else `at_least` says whether it is a plus that counts or a minus.
-use Rattle.crossings.proofs.Gathering.{added-sized}
-use Rattle.crossings.proofs.Fits.{fits-sum}
-use Rattle.crossings.specs.Crossings.{S, lies}
-use mir.Facts.{toZ-ofZ}
-use lib.IntN.{+ℤ-idl}
-use native.Mathlib.Omega.{arith}
-use mir.Val.{toZ, ofZ}
-use mir.Syntax.{w32}
+-- `Gather::with` meets its contract: a miss changes nothing; else `at_least` says whether it is a plus, which counts, or a minus.
 use mathlib.Core.Path.{_≡_}
+use lib.IntN.{+ℤ-idl}
+use mir.Syntax.{w32}
+use mir.Val.{toZ, ofZ}
+use mir.Facts.{toZ-ofZ}
+use Rattle.crossings.specs.Crossings.{S, lies}
+use Rattle.crossings.proofs.Fits.{fits-sum}
+use Rattle.crossings.proofs.Gathering.{added-sized}
 use borrow.Author.Needs.{needs}
 use Rattle.crossings.proofs.Gather.with.Statement.{statement}
 use Rattle.crossings.proofs.Gather.with.Tie as tie
@@ -27,13 +26,11 @@ add-t11 c = let d = c .before .before .before .before .before in
     let m = d .before .before .args .self .sum in
     let h : toZ w32 (ofZ w32 n) ≡ n = search needs in
     let i : toZ w32 (ofZ w32 m) ≡ m = search needs in
-    let l = rw (d .c .given .1) at (d .before .before .pre) in
-    rw (h, i) (fits-sum n m (omega arith))
+    rw (h, i) (fits-sum n m (rw (d .c .given .1) at (d .before .before .pre)))
 
 returns : tie.Need-returns
 unfolding S lies
-returns c = let a = c .before .before .args in
-    added-sized (a .k) (a .c) (a .self) (rw (c .enum-told .given .1, +ℤ-idl (a .self .sum)))
+returns c = let a = c .before .before .args in added-sized (a .c) (a .self) (rw (c .enum-told .given .1, +ℤ-idl (a .self .sum)))
 
 returns-2 : tie.Need-returns-2
 unfolding S lies
@@ -42,16 +39,14 @@ returns-2 c = let d = c .before .before .before .before .before in
     let n = d .c .given .0 .0 in
     let h : toZ w32 (ofZ w32 n) ≡ n = search needs in
     let i : toZ w32 (ofZ w32 (a .self .sum)) ≡ a .self .sum = search needs in
-    added-sized (a .k) (a .c) (a .self)
-    (rw (toZ-ofZ (add-t11 c), h, i, d .c .given .1, ← c .before .before .before .at-least .ensures, c .before .before .if1 .taken))
+    added-sized (a .c) (a .self) (rw (toZ-ofZ (add-t11 c), h, i, d .c .given .1, ← c .before .before .before .at-least .ensures, c .before .before .if1 .taken))
 
 returns-3 : tie.Need-returns-3
 unfolding S lies
 returns-3 c = let d = c .before .before .before .before in
     let a = d .before .before .args in
     let i : toZ w32 (ofZ w32 (a .self .sum)) ≡ a .self .sum = search needs in
-    added-sized (a .k) (a .c) (a .self)
-    (rw (i, d .c .given .1, ← c .before .before .at-least .ensures, c .before .if1 .left, +ℤ-idl (a .self .sum)))
+    added-sized (a .c) (a .self) (rw (i, d .c .given .1, ← c .before .before .at-least .ensures, c .before .if1 .left, +ℤ-idl (a .self .sum)))
 
 pub with-spec : {M : Type 1} → statement M
 with-spec =
