@@ -5,3 +5,5 @@ pub mod Facets
 pub mod Each
 pub mod Kept
 pub mod Sizes
+pub mod Fits
+pub mod Gathering

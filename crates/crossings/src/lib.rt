@@ -1,6 +1,15 @@
-// The things that are paired, one of A with one of B, and what a pairing answers.
+// The things that are paired, one of A with one of B, and what a pairing answers. v is a vertex, e an edge, f a facet, A's thing first: `ef` is an
+// edge of A with a facet of B.
+use points::Axis;
 use points::Point;
 use points::PointPair;
+ghost use mathlib.Core.Path.{_≡_};
+ghost use mathlib.Core.Bool.{true, false, cond};
+ghost use Prim.Native.Nat.{_+_, _<_, _≤_, _^_};
+ghost use lib.IntN.{pos, natAbs, _+ℤ_};
+ghost use Rattle.sums.specs.Lists.{nonzero};
+ghost use Rattle.points.specs.Points as P;
+ghost use Rattle.crossings.specs.Crossings as C;
 
 // An edge starts at the end with the lower vertex number.
 pub struct Edge {
@@ -22,4 +31,267 @@ pub struct Facet {
 pub enum Crossing {
     Miss,
     Cross(i32, PointPair),
+}
+
+impl Crossing {
+    // X
+    pub fn count(self) -> i32
+        ensures { λ r. ⌜ r ≡ C.count self ⌝ }
+    {
+        match self {
+            Crossing::Miss => 0,
+            Crossing::Cross(n, _) => n,
+        }
+    }
+
+    // Where it misses, zeros: no result asks for them.
+    pub fn points(self) -> PointPair
+        ensures { λ r. ⌜ r ≡ C.points self ⌝ }
+    {
+        match self {
+            Crossing::Miss => {
+                let zero = Point {
+                    x: 0.0,
+                    y: 0.0,
+                    z: 0.0,
+                };
+                PointPair { a: zero, b: zero }
+            }
+            Crossing::Cross(_, w) => w,
+        }
+    }
+
+    // "S equals X if X is not 0 and B's coordinate at the pair of points is at least A's; otherwise S is 0."
+    pub fn s(self, k: Axis) -> i32
+        ensures { λ r. ⌜ r ≡ C.S k self ⌝ }
+        ensures small { λ r. ⌜ natAbs r ≤ natAbs (C.count self) ⌝ }
+    {
+        match self {
+            Crossing::Miss => 0,
+            Crossing::Cross(n, w) => if points::at_least(k, w) { n } else { 0 },
+        }
+    }
+
+    // "the negated value and the same points"
+    pub fn against(self) -> Crossing
+        requires { ⌜ natAbs (C.count self) < 2 ^ 31 ⌝ }
+        ensures { λ r. ⌜ r ≡ C.against self ⌝ }
+        ensures small { λ r. ⌜ natAbs (C.count r) ≤ natAbs (C.count self) ⌝ }
+    {
+        match self {
+            Crossing::Miss => Crossing::Miss,
+            Crossing::Cross(n, w) => Crossing::Cross(-n, w),
+        }
+    }
+
+    // What an edge's crossing is for a half-edge that runs along the edge or against it.
+    fn signed(self, along: bool) -> Crossing
+        requires { ⌜ natAbs (C.count self) < 2 ^ 31 ⌝ }
+        ensures { λ r. ⌜ r ≡ cond along self (C.against self) ⌝ }
+        ensures small { λ r. ⌜ natAbs (C.count r) ≤ natAbs (C.count self) ⌝ }
+    {
+        if along { self } else { self.against() }
+    }
+}
+
+// What a pairing takes from its lower pairings: the sum of their S, the first plus and the first minus (Miss where there is none), all by one axis.
+// They are gathered from the last to the first, so that each goes before those that were found.
+struct Gather {
+    by: Axis,
+    sum: i32,
+    plus: Crossing,
+    minus: Crossing,
+}
+
+impl Gather {
+    fn empty(by: Axis) -> Gather
+        ensures { λ r. ⌜ r ≡ record { by = by; sum = pos 0; plus = Crossing.Miss; minus = Crossing.Miss } ⌝ }
+        ensures small { λ r. ⌜ natAbs (r .sum) ≤ 0 ⌝ }
+    {
+        Gather {
+            by,
+            sum: 0,
+            plus: Crossing::Miss,
+            minus: Crossing::Miss,
+        }
+    }
+
+    fn with(self, c: Crossing) -> Gather
+        requires { ⌜ natAbs (C.count c) + natAbs (self .sum) < 2 ^ 31 ⌝ }
+        ensures { λ r. ⌜ r ≡ record { by = self .by; sum = C.S (self .by) c +ℤ self .sum; plus = cond (C.lies (self .by) true c) c (self .plus); minus = cond (C.lies (self .by) false c) c (self .minus) } ⌝ }
+        ensures small { λ r. ⌜ natAbs (r .sum) ≤ natAbs (C.count c) + natAbs (self .sum) ⌝ }
+    {
+        match c {
+            Crossing::Miss => self,
+            Crossing::Cross(n, w) => {
+                let by = self.by;
+                let plus = self.plus;
+                let minus = self.minus;
+                if points::at_least(by, w) {
+                    Gather {
+                        by,
+                        sum: n + self.sum,
+                        plus: c,
+                        minus,
+                    }
+                } else {
+                    Gather {
+                        by,
+                        sum: self.sum,
+                        plus,
+                        minus: c,
+                    }
+                }
+            }
+        }
+    }
+
+    // Points are worked out only where the sum is not 0.
+    fn finish(self) -> Crossing
+        ensures { λ r. ⌜ r ≡ cond (nonzero (self .sum)) (Crossing.Cross (self .sum) (P.placed (self .by) (C.points (self .plus)) (C.points (self .minus)))) Crossing.Miss ⌝ }
+    {
+        let n = self.sum;
+        if n == 0 {
+            return Crossing::Miss;
+        }
+        let by = self.by;
+        let plus = self.plus;
+        let minus = self.minus;
+        Crossing::Cross(n, points::placed(by, plus.points(), minus.points()))
+    }
+}
+
+// "Two vertices: X = 1, the points are the vertices."
+pub fn vv(a: Point, b: Point) -> Crossing
+    ensures { λ r. ⌜ r ≡ C.vv a b ⌝ }
+    ensures small { λ r. ⌜ natAbs (C.count r) ≤ 1 ⌝ }
+{
+    Crossing::Cross(1, PointPair { a, b })
+}
+
+// "X(vA,eB) = S(vA,e) - S(vA,s)"
+pub fn ve(v: Point, e: Edge) -> Crossing
+    ensures { λ r. ⌜ r ≡ C.ve v e ⌝ }
+    ensures small { λ r. ⌜ natAbs (C.count r) ≤ 1 ⌝ }
+{
+    Gather::empty(Axis::X)
+        .with(vv(v, e.end))
+        .with(vv(v, e.start).against())
+        .finish()
+}
+
+// "X(eA,vB) = S(s,vB) - S(e,vB)"
+pub fn ev(e: Edge, v: Point) -> Crossing
+    ensures { λ r. ⌜ r ≡ C.ev e v ⌝ }
+    ensures small { λ r. ⌜ natAbs (C.count r) ≤ 1 ⌝ }
+{
+    Gather::empty(Axis::X)
+        .with(vv(e.end, v).against())
+        .with(vv(e.start, v))
+        .finish()
+}
+
+// "X(eA,eB) = S(eA's e,eB) - S(eA's s,eB) + S(eA,eB's e) - S(eA,eB's s)"
+pub fn ee(a: Edge, b: Edge) -> Crossing
+    ensures { λ r. ⌜ r ≡ C.ee a b ⌝ }
+    ensures small { λ r. ⌜ natAbs (C.count r) ≤ 1 ⌝ }
+{
+    Gather::empty(Axis::Y)
+        .with(ev(a, b.end))
+        .with(ev(a, b.start).against())
+        .with(ve(a.end, b))
+        .with(ve(a.start, b).against())
+        .finish()
+}
+
+// The edge of the half-edge from p to q, which runs along it or against it.
+fn edge_of(along: bool, p: Point, q: Point) -> Edge
+    ensures { λ r. ⌜ r ≡ cond along (record { start = p; end = q }) (record { start = q; end = p }) ⌝ }
+{
+    if along {
+        Edge { start: p, end: q }
+    } else {
+        Edge { start: q, end: p }
+    }
+}
+
+// A half-edge h is given by whether it runs along its edge, and by its two ends.
+fn vh(v: Point, along: bool, p: Point, q: Point) -> Crossing
+    ensures { λ r. ⌜ r ≡ C.half (C.ve v) along p q ⌝ }
+    ensures small { λ r. ⌜ natAbs (C.count r) ≤ 1 ⌝ }
+{
+    ve(v, edge_of(along, p, q)).signed(along)
+}
+
+fn hv(along: bool, p: Point, q: Point, v: Point) -> Crossing
+    ensures { λ r. ⌜ r ≡ C.half (λ h. C.ev h v) along p q ⌝ }
+    ensures small { λ r. ⌜ natAbs (C.count r) ≤ 1 ⌝ }
+{
+    ev(edge_of(along, p, q), v).signed(along)
+}
+
+fn eh(e: Edge, along: bool, p: Point, q: Point) -> Crossing
+    ensures { λ r. ⌜ r ≡ C.half (C.ee e) along p q ⌝ }
+    ensures small { λ r. ⌜ natAbs (C.count r) ≤ 1 ⌝ }
+{
+    ee(e, edge_of(along, p, q)).signed(along)
+}
+
+fn he(along: bool, p: Point, q: Point, e: Edge) -> Crossing
+    ensures { λ r. ⌜ r ≡ C.half (λ h. C.ee h e) along p q ⌝ }
+    ensures small { λ r. ⌜ natAbs (C.count r) ≤ 1 ⌝ }
+{
+    ee(edge_of(along, p, q), e).signed(along)
+}
+
+// "X(vA,fB) = - sum S(vA,h)"
+pub fn vf(v: Point, f: Facet) -> Crossing
+    ensures { λ r. ⌜ r ≡ C.vf v f ⌝ }
+    ensures small { λ r. ⌜ natAbs (C.count r) ≤ 1 ⌝ }
+{
+    Gather::empty(Axis::Y)
+        .with(vh(v, f.rp, f.r, f.p).against())
+        .with(vh(v, f.qr, f.q, f.r).against())
+        .with(vh(v, f.pq, f.p, f.q).against())
+        .finish()
+}
+
+// "X(fA,vB) = sum S(h,vB)"
+pub fn fv(f: Facet, v: Point) -> Crossing
+    ensures { λ r. ⌜ r ≡ C.fv f v ⌝ }
+    ensures small { λ r. ⌜ natAbs (C.count r) ≤ 1 ⌝ }
+{
+    Gather::empty(Axis::Y)
+        .with(hv(f.rp, f.r, f.p, v))
+        .with(hv(f.qr, f.q, f.r, v))
+        .with(hv(f.pq, f.p, f.q, v))
+        .finish()
+}
+
+// "X(eA,fB) = S(s,fB) - S(e,fB) - sum S(eA,h)"
+pub fn ef(e: Edge, f: Facet) -> Crossing
+    ensures { λ r. ⌜ r ≡ C.ef e f ⌝ }
+    ensures small { λ r. ⌜ natAbs (C.count r) ≤ 2 ⌝ }
+{
+    Gather::empty(Axis::Z)
+        .with(eh(e, f.rp, f.r, f.p).against())
+        .with(eh(e, f.qr, f.q, f.r).against())
+        .with(eh(e, f.pq, f.p, f.q).against())
+        .with(vf(e.end, f).against())
+        .with(vf(e.start, f))
+        .finish()
+}
+
+// "X(fA,eB) = S(fA,e) - S(fA,s) - sum S(h,eB)"
+pub fn fe(f: Facet, e: Edge) -> Crossing
+    ensures { λ r. ⌜ r ≡ C.fe f e ⌝ }
+    ensures small { λ r. ⌜ natAbs (C.count r) ≤ 2 ⌝ }
+{
+    Gather::empty(Axis::Z)
+        .with(fv(f, e.end))
+        .with(fv(f, e.start).against())
+        .with(he(f.rp, f.r, f.p, e).against())
+        .with(he(f.qr, f.q, f.r, e).against())
+        .with(he(f.pq, f.p, f.q, e).against())
+        .finish()
 }
