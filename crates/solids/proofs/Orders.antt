@@ -15,7 +15,8 @@ use Rattle.solids.specs.Refusals.{Verdict, accepted, refused, given, in-
 use Rattle.solids.specs.Solids.{Solid, vertices, facets, half-edges, pairs}
 use Rattle.solids.specs.Admission.{uneven, too-many, beyond, faulty, differ}
 use Rattle.solids.specs.Admission.{check-lengths, check-sizes, check-blanks, check-limit, check-corners, check-closure, admission, point-admission}
-use Rattle.solids.specs.Containment.{Counted, in-A, in-B, count-as-A, count-as-B}
+use Rattle.solids.specs.declared.Counted.{Counted}
+use Rattle.solids.specs.Containment.{in-A, in-B, count-as-A, count-as-B}
 
 -- ---- any checks in order
 pub first-refusal : (vs ws : List Verdict) (n : ℕ) → All (λ v. v ≡ accepted) vs → in-order (vs ++ (refused n ∷ ws)) ≡ refused n

@@ -1,11 +1,11 @@
 -- Document 01, "Crossing counts": how often a solid contains a point, and the two calls that count it.
-use Prim.Native.Nat.{ℕ}
 use mathlib.Core.List.{[], _∷_}
 use lib.IntN.{ℤ, pos, negℤ}
 use Rattle.sums.specs.Lists.{upTo, sumOf}
 use Rattle.points.specs.declared.Point.{Point}
 use Rattle.points.specs.declared.Axis.the-variants.{Z}
 use Rattle.crossings.specs.Crossings.{S, vf, fv}
+use Rattle.solids.specs.declared.Counted.{Counted}
 use Rattle.solids.specs.Refusals.{Verdict, accepted, refused, in-order}
 use Rattle.solids.specs.Solids.{Solid, facets, facet}
 use Rattle.solids.specs.Admission.{admission, point-admission}
@@ -19,10 +19,6 @@ unfoldable pub in-A : Solid → Point → ℤ
 in-A a v = negℤ (sumOf (λ f. S Z (fv (facet a f) v)) (upTo (facets a)))
 
 -- "Every refusal returns its number with all counts zero"
-pub record Counted : Type 0 where
-  pub answer : ℕ
-  pub count : ℤ
-
 abbrev pub counted : Verdict → ℤ → Counted
 counted accepted n = record { answer = 0; count = n }
 counted (refused k) n = record { answer = k; count = pos 0 }

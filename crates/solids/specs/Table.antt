@@ -1,11 +1,16 @@
 -- Words of the contracts between functions of this crate; no public statement needs them.
 use mathlib.Core.Path.{_≡_}
 use mathlib.Core.List.{List, [], flatMap}
-use Prim.Native.Nat.{ℕ, _+_, _*_, _<_}
+use Prim.Native.Nat.{ℕ, _+_, _*_, _/_, _<_}
 use lib.ListN.{length, getD}
+use lib.IntN.{ℤ}
 use lib.Ieee.{Float, isNan}
 use mathlib.Core.Bool.{Bool, true, false}
 use Rattle.sums.specs.Lists.{upTo}
+use Rattle.points.specs.declared.Point.{Point}
+use Rattle.points.specs.declared.Axis.the-variants.{Z}
+use Rattle.crossings.specs.declared.Facet.{Facet}
+use Rattle.crossings.specs.Crossings.{S, vf, fv}
 use Rattle.solids.specs.Solids.{Half, solid, number-of, facet-half-edges}
 use Rattle.solids.specs.Admission.{beyond}
 
@@ -29,3 +34,12 @@ Low corners = (i : ℕ) → i < length corners → getD corners i 0 < 128
 -- the half-edges of the facets below f
 unfoldable pub counted : List ℕ → ℕ → List Half
 counted corners f = flatMap (facet-half-edges (solid [] corners)) (upTo f)
+
+-- every corner number names a vertex
+abbrev pub Named : List Float → List ℕ → Type 0
+Named points corners = (i : ℕ) → i < length corners → getD corners i 0 < length points / 3
+
+-- one loop serves both containment counts: S of the point with a facet of B, or of a facet of A with the point
+unfoldable pub facet-S : Bool → Point → Facet → ℤ
+facet-S true v f = S Z (vf v f)
+facet-S false v f = S Z (fv f v)
