@@ -1,0 +1,199 @@
+//! Requests about files: read, written, and as input of the program `solid`; and shown parts.
+
+use super::ample;
+use super::bodies::sample;
+use super::pairs::{largest, pick_pair, Pair};
+use super::random::Random;
+use super::refusals::{blank, put_faults};
+use super::rods::sized;
+use crate::admission::Solid;
+use crate::house::records;
+use crate::language::Request;
+use crate::result::operation;
+
+/// A solid whose lists are whole threes, as a file holds them; with faults once in two times.
+fn solid_for_file(r: &mut Random) -> Solid {
+    let mut solid = if r.once_in(16) { largest(r).0 } else { pick_pair(r).0 };
+    if r.once_in(2) {
+        put_faults(r, &mut solid, 8);
+    }
+    solid.points.truncate(3 * solid.vertices());
+    solid.corners.truncate(3 * solid.facets());
+    solid
+}
+
+/// Another two bytes where a mark stands, or another byte anywhere.
+fn damage(r: &mut Random, file: &mut [u8], vertices: usize) {
+    let marks = [*b"VX", *b"FC", *b"EN", *b"vx", *b"XV", [0, 0], *b"NE"];
+    let records = if file.len() > 26 * vertices { (file.len() - 26 * vertices) / 14 } else { 0 };
+    let at = match r.below(3) {
+        0 if vertices > 0 => 26 * r.below(vertices),
+        1 => 26 * vertices + 14 * r.below(records + 1),
+        _ => r.below(file.len()),
+    };
+    let mark = r.pick(&marks);
+    file[at..].iter_mut().zip(mark).for_each(|(byte, new)| *byte = new);
+}
+
+/// A file with its records in another order: a vertex after a facet.
+fn vertex_behind(r: &mut Random, solid: &Solid) -> Vec<u8> {
+    let file = records(solid);
+    let Some(vertex) = file.get(..26).filter(|_| solid.facets() > 0) else { return file };
+    let at = 26 * solid.vertices() + 14 * (1 + r.below(solid.facets()));
+    [&file[26..at], vertex, &file[at..]].concat()
+}
+
+/// A house file, whole or with something wrong.
+fn some_file(r: &mut Random, solid: &Solid) -> Vec<u8> {
+    let mut file = records(solid);
+    match r.below(12) {
+        0 => file.truncate(r.below(file.len() + 1)),
+        1 => damage(r, &mut file, solid.vertices()),
+        2 => file = vertex_behind(r, solid),
+        3 => file.extend(r.pick(&[&b"EN"[..], b"VX", b"F", b"\0\0\0", b"ENEN"])),
+        4 => file.splice(0..0, blank_record(r)).for_each(drop),
+        _ => {}
+    }
+    file
+}
+
+fn blank_record(r: &mut Random) -> Vec<u8> {
+    let blank = Solid { points: vec![1.0, blank(r), -0.0], corners: Vec::new() };
+    records(&blank)[..26].to_vec()
+}
+
+/// The reader: whole and damaged files, rooms that just suffice and rooms one short.
+pub fn read(r: &mut Random, _: u64) -> Request {
+    let solid = solid_for_file(r);
+    let bytes = some_file(r, &solid);
+    let (coordinates, corners) = (solid.points.len(), solid.corners.len());
+    let (coordinates, corners) = match r.below(6) {
+        0 => (coordinates.saturating_sub(1), corners),
+        1 => (coordinates, corners.saturating_sub(1)),
+        2 => (coordinates, corners),
+        3 => (r.below(400), r.below(800)),
+        _ => (384, 768),
+    };
+    Request::Read { bytes, coordinates, corners }
+}
+
+/// A small file cut at every place, one after the other, for the reader and for the program.
+pub fn cut(r: &mut Random, number: u64) -> Request {
+    let file = records(&sample());
+    let kept = (number / 2) as usize % (file.len() + 1);
+    if number % 2 == 0 {
+        return Request::Read { bytes: file[..kept].to_vec(), coordinates: 12, corners: 12 };
+    }
+    let whole = if r.once_in(2) { file.clone() } else { Vec::new() };
+    Request::Solid { bytes: [b"U", &whole[..], &file[..kept]].concat() }
+}
+
+/// The writer: solids with and without faults, rooms that just suffice and rooms one short.
+pub fn written(r: &mut Random, _: u64) -> Request {
+    let mut solid = if r.once_in(16) { largest(r).0 } else { pick_pair(r).0 };
+    if r.once_in(2) {
+        put_faults(r, &mut solid, 8);
+    }
+    let bytes = records(&solid).len();
+    let room = match r.below(5) {
+        0 => bytes - 1,
+        1 => r.below(bytes + 1),
+        2 => bytes + r.below(50),
+        _ => bytes,
+    };
+    Request::Write { solid, room }
+}
+
+/// The program: right and wrong letters, whole and damaged files, trailing bytes.
+pub fn program(r: &mut Random, _: u64) -> Request {
+    let bytes = match r.below(12) {
+        0 => r.pick(&[&b""[..], b"U", b"D", b"x", b"UEN", b"IENEN", b"DENEN", b"UENENE", b"\0ENEN", b"uENEN"]).to_vec(),
+        1 => near_byte_limit(r),
+        2 => near_room(r),
+        3 => near_room(r),
+        _ => {
+            let (mut a, mut b) = pick_pair(r);
+            if r.once_in(3) {
+                put_faults(r, &mut a, 8);
+                put_faults(r, &mut b, 8);
+            }
+            input_of(r, &(a, b))
+        }
+    };
+    Request::Solid { bytes }
+}
+
+fn input_of(r: &mut Random, (a, b): &Pair) -> Vec<u8> {
+    let letter = if r.once_in(6) { r.pick(b"uidABEVX \n\0\xff") } else { r.pick(b"UID") };
+    let once_damaged = r.once_in(3);
+    let file = |r: &mut Random, solid: &Solid| if once_damaged { some_file(r, solid) } else { records(solid) };
+    let mut input = [&[letter][..], &file(r, a)[..], &file(r, b)[..]].concat();
+    if r.once_in(8) {
+        input.extend(r.pick(&[&b"\n"[..], b"EN", b"\0", b"VX"]));
+    }
+    input
+}
+
+/// An input just under, at or just over 32,768 bytes. With both layouts right its length is
+/// odd, so that at the limit itself there is a fault besides; then a wrong letter, 2 or 9.
+fn near_byte_limit(r: &mut Random) -> Vec<u8> {
+    let length = r.pick(&[32_767, 32_767, 32_768, 32_769, 32_769, 40_001]);
+    let mut input = vec![r.pick(b"UIDUIDx")];
+    let vertices = if r.once_in(2) { 20 } else { 1_100 };
+    let solid = Solid { points: vec![0.5; 3 * vertices], corners: Vec::new() };
+    input.extend(records(&solid));
+    // The rest is B's file: facets, and as many vertices as make up the bytes that are left.
+    let left = length - input.len() - 2;
+    let vertices = (0..7).find(|vertices| (left - 26 * vertices) % 14 < 2).unwrap_or(0);
+    let facets = (left - 26 * vertices) / 14;
+    input.extend(records(&Solid { points: vec![-0.0; 3 * vertices], corners: vec![0; 3 * facets] }));
+    if r.once_in(4) {
+        input[1] = b'x';
+    }
+    input.resize(length, b'E');
+    input
+}
+
+/// An input whose result has just so many vertices or triangles as there is room for, or more.
+fn near_room(r: &mut Random) -> Vec<u8> {
+    let (vertices, triangles) = r.pick(&[(511, 0), (512, 0), (513, 0), (512, 1_022), (512, 1_024), (512, 1_026), (500, 1_024)]);
+    let (letter, code) = r.pick(&[(b'U', 0), (b'D', 2)]);
+    let (a, b) = sized(r, code, vertices, triangles);
+    [&[letter][..], &records(&a)[..], &records(&b)[..]].concat()
+}
+
+/// Any corner lists with any origins.
+pub fn shown(r: &mut Random, _: u64) -> Request {
+    let mut list = |most: usize| -> Vec<u32> {
+        let length = r.below(most + 1);
+        (0..length).map(|_| if r.once_in(3) { u32::MAX - r.below(3) as u32 } else { r.below(200) as u32 }).collect()
+    };
+    let (a, b) = (list(17), list(17));
+    let facets = (a.len() / 3 + b.len() / 3) as u32;
+    let any = r.below(12) as u32;
+    let ends = [0, a.len() as u32 / 3, facets.saturating_sub(1), facets, facets + 1];
+    let origin = if r.once_in(2) { any } else { r.pick(&[&ends[..], &[1 << 31, u32::MAX]].concat()) };
+    Request::Shown { a, b, origin }
+}
+
+/// Rooms that just suffice and rooms one short, for operations.
+pub fn rooms(r: &mut Random, _: u64) -> Request {
+    let (a, b) = pick_pair(r);
+    let code = r.below(3) as u32;
+    let mut room = ample();
+    if let Ok(outcome) = operation(code, &a, &b, room) {
+        let (vertices, triangles) = (outcome.vertices.len(), outcome.triangles.len());
+        room.coordinates = 3 * vertices;
+        room.corners = 3 * triangles;
+        room.origins = triangles;
+    }
+    match r.below(8) {
+        0 => room.coordinates = room.coordinates.saturating_sub(1),
+        1 => room.corners = room.corners.saturating_sub(1),
+        2 => room.origins = room.origins.saturating_sub(1),
+        3 => room.coordinates += 2,
+        4 => room.corners = u32::MAX as usize,
+        _ => {}
+    }
+    Request::Op { code, a, b, room }
+}
