@@ -124,7 +124,7 @@ pub struct Side {
 pub struct Body {
     pub points: Vec<Point>,
     /// Start and end of each edge, by vertex number and as a bare edge.
-    pub edge_ends: Vec<(usize, usize)>,
+    pub edge_ends: Vec<[usize; 2]>,
     pub edges: Vec<Edge>,
     /// The half-edges of each facet, by edge number and as a bare facet.
     pub sides: Vec<[Side; 3]>,
@@ -139,10 +139,10 @@ pub fn admitted(solid: &Solid) -> Answer<Body> {
     }
     let points: Vec<Point> = (0..solid.vertices()).map(|vertex| solid.point(vertex)).collect();
     let (edge_ends, numbers) = edges_of(solid);
-    let edges: Vec<Edge> = edge_ends.iter().map(|&(s, e)| Edge { start: points[s], end: points[e] }).collect();
+    let edges: Vec<Edge> = edge_ends.iter().map(|&[s, e]| Edge { start: points[s], end: points[e] }).collect();
     let side = |from: usize, to: usize| {
         let edge = numbers[from * points.len() + to];
-        Side { edge, along: edge_ends[edge] == (from, to) }
+        Side { edge, along: edge_ends[edge] == [from, to] }
     };
     let sides: Vec<[Side; 3]> = (0..solid.facets())
         .map(|facet| {
@@ -157,7 +157,7 @@ pub fn admitted(solid: &Solid) -> Answer<Body> {
 
 /// The edges in their order, and a table that gives the edge's number for two vertices.
 /// "An edge joins two vertices that some half-edge joins; it starts at the lower number."
-fn edges_of(solid: &Solid) -> (Vec<(usize, usize)>, Vec<usize>) {
+fn edges_of(solid: &Solid) -> (Vec<[usize; 2]>, Vec<usize>) {
     let n = solid.vertices();
     let mut starts = vec![None; n * n];
     for (from, to) in solid.half_edges() {
@@ -172,7 +172,7 @@ fn edges_of(solid: &Solid) -> (Vec<(usize, usize)>, Vec<usize>) {
             if let Some(start) = starts[low * n + high] {
                 numbers[low * n + high] = edges.len();
                 numbers[high * n + low] = edges.len();
-                edges.push((start, low + high - start));
+                edges.push([start, low + high - start]);
             }
         }
     }

@@ -83,7 +83,7 @@ impl Crossing {
     }
 
     /// "A half-edge against its edge has the negated value and the same points."
-    fn of_half_edge(self, along: bool) -> Crossing {
+    pub fn of_half_edge(self, along: bool) -> Crossing {
         match self {
             Crossing::Cross { count, points } if !along => Crossing::Cross { count: -count, points },
             same => same,
@@ -193,35 +193,49 @@ pub fn edge_vertex(a: &Edge, b: Point) -> Crossing {
     from_lower(&[added(vertex_vertex(a.start, b)), taken(vertex_vertex(a.end, b))], &[], HEAD)
 }
 
-/// X(vA,fB) = - sum S(vA,h).
+/// X(vA,fB) = - sum S(vA,h), from the vertex with each half-edge.
+pub fn vertex_facet_from(half_edges: [Crossing; 3]) -> Crossing {
+    from_lower(&[], &half_edges.map(taken), FLOW)
+}
+
 pub fn vertex_facet(a: Point, b: &Facet) -> Crossing {
-    from_lower(&[], &b.map(|h| taken(vertex_edge(a, &h.edge).of_half_edge(h.along))), FLOW)
+    vertex_facet_from(b.map(|h| vertex_edge(a, &h.edge).of_half_edge(h.along)))
 }
 
-/// X(fA,vB) = sum S(h,vB).
+/// X(fA,vB) = sum S(h,vB), from each half-edge with the vertex.
+pub fn facet_vertex_from(half_edges: [Crossing; 3]) -> Crossing {
+    from_lower(&half_edges.map(added), &[], FLOW)
+}
+
 pub fn facet_vertex(a: &Facet, b: Point) -> Crossing {
-    from_lower(&a.map(|h| added(edge_vertex(&h.edge, b).of_half_edge(h.along))), &[], FLOW)
+    facet_vertex_from(a.map(|h| edge_vertex(&h.edge, b).of_half_edge(h.along)))
 }
 
-/// X(eA,eB) = S(eA's e,eB) - S(eA's s,eB) + S(eA,eB's e) - S(eA,eB's s).
+/// X(eA,eB) = S(eA's e,eB) - S(eA's s,eB) + S(eA,eB's e) - S(eA,eB's s), from A's start and
+/// end with the edge of B, and the edge of A with B's start and end.
+pub fn edge_edge_from([s_a, e_a]: [Crossing; 2], [s_b, e_b]: [Crossing; 2]) -> Crossing {
+    from_lower(&[taken(s_a), added(e_a)], &[taken(s_b), added(e_b)], FLOW)
+}
+
 pub fn edge_edge(a: &Edge, b: &Edge) -> Crossing {
-    let of_a = [taken(vertex_edge(a.start, b)), added(vertex_edge(a.end, b))];
-    let of_b = [taken(edge_vertex(a, b.start)), added(edge_vertex(a, b.end))];
-    from_lower(&of_a, &of_b, FLOW)
+    edge_edge_from([a.start, a.end].map(|end| vertex_edge(end, b)), [b.start, b.end].map(|end| edge_vertex(a, end)))
 }
 
-/// X(eA,fB) = S(s,fB) - S(e,fB) - sum S(eA,h).
+/// X(eA,fB) = S(s,fB) - S(e,fB) - sum S(eA,h), from A's start and end with the facet, and the
+/// edge with each half-edge.
+pub fn edge_facet_from([s, e]: [Crossing; 2], half_edges: [Crossing; 3]) -> Crossing {
+    highest(&[added(s), taken(e)], &half_edges.map(taken))
+}
+
 pub fn edge_facet(a: &Edge, b: &Facet) -> Crossing {
-    let of_a = [added(vertex_facet(a.start, b)), taken(vertex_facet(a.end, b))];
-    let of_b = b.map(|h| taken(edge_edge(a, &h.edge).of_half_edge(h.along)));
-    highest(&of_a, &of_b)
+    let half_edges = b.map(|h| edge_edge(a, &h.edge).of_half_edge(h.along));
+    edge_facet_from([a.start, a.end].map(|end| vertex_facet(end, b)), half_edges)
 }
 
-/// X(fA,eB) = S(fA,e) - S(fA,s) - sum S(h,eB).
-pub fn facet_edge(a: &Facet, b: &Edge) -> Crossing {
-    let of_a = a.map(|h| taken(edge_edge(&h.edge, b).of_half_edge(h.along)));
-    let of_b = [taken(facet_vertex(a, b.start)), added(facet_vertex(a, b.end))];
-    highest(&of_a, &of_b)
+/// X(fA,eB) = S(fA,e) - S(fA,s) - sum S(h,eB), from each half-edge with the edge, and the
+/// facet with B's start and end.
+pub fn facet_edge_from(half_edges: [Crossing; 3], [s, e]: [Crossing; 2]) -> Crossing {
+    highest(&half_edges.map(taken), &[taken(s), added(e)])
 }
 
 /// An edge with a facet: as any other pairing, and noted in the tally.
@@ -237,14 +251,14 @@ fn highest(of_a: &[Lower], of_b: &[Lower]) -> Crossing {
     crossing
 }
 
-/// X(vA,B) = sum S(vA,f): how often a solid as B contains a point.
-pub fn contained_in_b(a: Point, b: &[Facet]) -> i64 {
-    capped(b.iter().map(|facet| vertex_facet(a, facet).s(OUTPUT)).sum())
+/// X(vA,B) = sum S(vA,f), from the vertex with each facet: how often B contains the vertex.
+pub fn contained_in_b(facets: impl Iterator<Item = Crossing>) -> i64 {
+    capped(facets.map(|crossing| crossing.s(OUTPUT)).sum())
 }
 
-/// X(A,vB) = - sum S(f,vB): how often a solid as A contains a point.
-pub fn contained_in_a(a: &[Facet], b: Point) -> i64 {
-    capped(-a.iter().map(|facet| facet_vertex(facet, b).s(OUTPUT)).sum::<i64>())
+/// X(A,vB) = - sum S(f,vB), from each facet with the vertex: how often A contains the vertex.
+pub fn contained_in_a(facets: impl Iterator<Item = Crossing>) -> i64 {
+    capped(-facets.map(|crossing| crossing.s(OUTPUT)).sum::<i64>())
 }
 
 /// A count stands as it is: "a badly shaped solid may contain a point twice or -1 times".

@@ -23,7 +23,7 @@ pub struct Family {
 }
 
 /// Every family; what each is for stands at its maker.
-pub const FAMILIES: [Family; 25] = [
+pub const FAMILIES: [Family; 28] = [
     Family { name: "ties", make: |r, _| asked(r, pairs::ties) },
     Family { name: "boxes", make: |r, _| asked(r, pairs::boxes) },
     Family { name: "zeros", make: |r, _| asked(r, pairs::signed_zeros) },
@@ -49,6 +49,9 @@ pub const FAMILIES: [Family; 25] = [
     Family { name: "cut", make: files::cut },
     Family { name: "written", make: files::written },
     Family { name: "program", make: files::program },
+    Family { name: "letters", make: files::letters },
+    Family { name: "byte-limit", make: files::byte_limit },
+    Family { name: "program-room", make: files::program_room },
 ];
 
 /// Room for the result of any pair but the very largest.
@@ -66,7 +69,7 @@ fn asked(r: &mut Random, pair: fn(&mut Random) -> Pair) -> Request {
 
 /// The largest sizes, and seldom results near or above the most that a room can hold.
 fn largest(r: &mut Random, _: u64) -> Request {
-    if !r.once_in(16) {
+    if !r.once_in(48) {
         return asked(r, pairs::largest);
     }
     let (a, b) = rods::needles(r);

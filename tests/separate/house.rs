@@ -114,7 +114,7 @@ fn letter_code(letter: u8) -> Answer<u32> {
         b'U' => Ok(0),
         b'I' => Ok(1),
         b'D' => Ok(2),
-        b'u' if slip() == Slip::LowerCase => Ok(0),
+        b'u' | b'i' | b'd' if slip() == Slip::LowerCase => letter_code(letter.to_ascii_uppercase()),
         _ => Err(Refusal(7)),
     }
 }

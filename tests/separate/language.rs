@@ -2,7 +2,7 @@
 //! (tests/cases/README.md has the form).
 
 use crate::admission::{admitted, check, check_coordinates, Answer, Solid};
-use crate::crossings::{contained_in_a, contained_in_b, Point};
+use crate::crossings::{contained_in_a, contained_in_b, facet_vertex, vertex_facet, Point};
 use crate::house;
 use crate::result::{operation, shown, Outcome, Room};
 use crate::slips::{slip, Slip};
@@ -248,8 +248,12 @@ fn count(as_a: bool, point: Point, solid: &Solid) -> Answer<i64> {
         check(solid)?;
     }
     check_coordinates(&point)?;
-    let body = admitted(solid)?;
-    Ok(if as_a { contained_in_a(&body.facets, point) } else { contained_in_b(point, &body.facets) })
+    let facets = admitted(solid)?.facets;
+    Ok(if as_a {
+        contained_in_a(facets.iter().map(|facet| facet_vertex(facet, point)))
+    } else {
+        contained_in_b(facets.iter().map(|facet| vertex_facet(point, facet)))
+    })
 }
 
 /// The lines that answer a request, without the full stop.

@@ -6,6 +6,7 @@ mod crossings;
 mod families;
 mod house;
 mod language;
+mod pairings;
 mod result;
 mod shuts_out;
 mod slips;

@@ -2,7 +2,8 @@
 //! origins (document 000, section 2.5), and the part of a corner list that an origin shows.
 
 use crate::admission::{admitted, Answer, Body, Refusal, Side, Solid};
-use crate::crossings::{contained_in_a, contained_in_b, edge_facet, facet_edge, Crossing, Point};
+use crate::crossings::{Crossing, Point};
+use crate::pairings::{each, Pairings};
 use crate::slips::{slip, Slip};
 
 /// The lengths of the lent lists: coordinates, corners, origins.
@@ -97,29 +98,25 @@ impl<'s> Making<'s> {
     /// The vertices of the result, in their order.
     fn new(operation: Operation, a: &'s Body, b: &'s Body) -> Making<'s> {
         let Operation { c_a, c_b, c_i } = operation;
+        let pairings = Pairings::of(a, b);
         let mut vertices = Vec::new();
         let mut keep = |inclusion, point| keep(&mut vertices, inclusion, point);
-        let a_vertices = a.points.iter().enumerate().map(|(vertex, &point)| {
-            let unused = slip() == Slip::UnusedDropped && a.edge_ends.iter().all(|&(s, e)| s != vertex && e != vertex);
-            keep(if unused { 0 } else { c_a + c_i * contained_in_b(point, &b.facets) }, point)
-        });
-        let a_vertices = a_vertices.collect();
+        let inclusion_a = |vertex| if dropped(a, vertex) { 0 } else { c_a + c_i * pairings.contained_in_b(vertex) };
+        let a_vertices = (0..a.points.len()).map(|vertex| keep(inclusion_a(vertex), a.points[vertex])).collect();
         let mut crossed = |crossing| match crossing {
             Crossing::Miss => keep(0, [0.0; 3]),
             Crossing::Cross { count, points } => keep(c_i * count, new_vertex(points.a, points.b)),
         };
-        let edge_facets = a.edges.iter().flat_map(|edge| b.facets.iter().map(move |facet| edge_facet(edge, facet)));
-        let edge_facet = edge_facets.map(&mut crossed).collect();
-        let facet_edges = a.facets.iter().flat_map(|facet| b.edges.iter().map(move |edge| facet_edge(facet, edge)));
-        let facet_edge = facet_edges.map(&mut crossed).collect();
-        let b_vertices = b.points.iter().map(|&point| keep(c_b + c_i * contained_in_a(&a.facets, point), point));
-        let b_vertices = b_vertices.collect();
+        let edge_facet = each(a.edges.len(), b.facets.len()).map(|(e, f)| crossed(pairings.edge_facet(e, f))).collect();
+        let facet_edge = each(a.facets.len(), b.edges.len()).map(|(f, e)| crossed(pairings.facet_edge(f, e))).collect();
+        let inclusion_b = |vertex| c_b + c_i * pairings.contained_in_a(vertex);
+        let b_vertices = (0..b.points.len()).map(|vertex| keep(inclusion_b(vertex), b.points[vertex])).collect();
         Making { a, b, vertices, a_vertices, edge_facet, facet_edge, b_vertices }
     }
 
     /// Edge of A: start (minus its inclusion), end (its inclusion), then crossings by facet of B.
     fn pieces_of_a(&self, edge: usize) -> Vec<Piece> {
-        let (start, end) = self.a.edge_ends[edge];
+        let [start, end] = self.a.edge_ends[edge];
         let width = self.b.facets.len();
         let mut ends = vec![end_of(-1, self.a_vertices[start]), end_of(1, self.a_vertices[end])];
         ends.extend(self.edge_facet[edge * width..][..width].iter().map(|&slot| end_of(1, slot)));
@@ -128,7 +125,7 @@ impl<'s> Making<'s> {
 
     /// Edge of B: start (minus), end (plus), then crossings by facet of A.
     fn pieces_of_b(&self, edge: usize) -> Vec<Piece> {
-        let (start, end) = self.b.edge_ends[edge];
+        let [start, end] = self.b.edge_ends[edge];
         let width = self.b.edges.len();
         let mut ends = vec![end_of(-1, self.b_vertices[start]), end_of(1, self.b_vertices[end])];
         ends.extend((0..self.a.facets.len()).map(|facet| end_of(1, self.facet_edge[facet * width + edge])));
@@ -158,7 +155,7 @@ impl<'s> Making<'s> {
         let (a, b) = (self.a, self.b);
         let of_a: Vec<Vec<Piece>> = (0..a.edges.len()).map(|edge| self.pieces_of_a(edge)).collect();
         let of_b: Vec<Vec<Piece>> = (0..b.edges.len()).map(|edge| self.pieces_of_b(edge)).collect();
-        let pairs = (0..a.facets.len()).flat_map(|f| (0..b.facets.len()).map(move |g| (f, g)));
+        let pairs = each(a.facets.len(), b.facets.len());
         let of_pairs: Vec<Vec<Piece>> = pairs.map(|(f, g)| self.pieces_of_pair(f, g)).collect();
         let width = b.facets.len();
         let mut outcome = Outcome::default();
@@ -178,6 +175,11 @@ impl<'s> Making<'s> {
         outcome.vertices = self.vertices;
         outcome
     }
+}
+
+/// "Vertices used by no facet are allowed": they are kept like any other.
+fn dropped(a: &Body, vertex: usize) -> bool {
+    slip() == Slip::UnusedDropped && a.edge_ends.iter().all(|ends| !ends.contains(&vertex))
 }
 
 /// "A new vertex in a result is A's point."

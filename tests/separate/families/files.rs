@@ -2,9 +2,9 @@
 
 use super::ample;
 use super::bodies::sample;
-use super::pairs::{largest, pick_pair, Pair};
+use super::pairs::{largest, pick_pair, signed_zeros};
 use super::random::Random;
-use super::refusals::{blank, put_faults};
+use super::refusals::{blank, put_faults, put_inner_fault, too_many_facets, too_many_vertices};
 use super::rods::sized;
 use crate::admission::Solid;
 use crate::house::records;
@@ -14,8 +14,12 @@ use crate::result::operation;
 /// A solid whose lists are whole threes, as a file holds them; with faults once in two times.
 fn solid_for_file(r: &mut Random) -> Solid {
     let mut solid = if r.once_in(16) { largest(r).0 } else { pick_pair(r).0 };
-    if r.once_in(2) {
-        put_faults(r, &mut solid, 8);
+    match r.below(8) {
+        0 => too_many_facets(r, &mut solid),
+        1 => too_many_vertices(r, &mut solid),
+        2..=4 => put_inner_fault(r, &mut solid),
+        5 => put_faults(r, &mut solid),
+        _ => {}
     }
     solid.points.truncate(3 * solid.vertices());
     solid.corners.truncate(3 * solid.facets());
@@ -46,12 +50,12 @@ fn vertex_behind(r: &mut Random, solid: &Solid) -> Vec<u8> {
 /// A house file, whole or with something wrong.
 fn some_file(r: &mut Random, solid: &Solid) -> Vec<u8> {
     let mut file = records(solid);
-    match r.below(12) {
+    match r.below(14) {
         0 => file.truncate(r.below(file.len() + 1)),
         1 => damage(r, &mut file, solid.vertices()),
-        2 => file = vertex_behind(r, solid),
-        3 => file.extend(r.pick(&[&b"EN"[..], b"VX", b"F", b"\0\0\0", b"ENEN"])),
-        4 => file.splice(0..0, blank_record(r)).for_each(drop),
+        2 | 3 => file = vertex_behind(r, solid),
+        4 => file.extend(r.pick(&[&b"EN"[..], b"VX", b"F", b"\0\0\0", b"ENEN"])),
+        5 => file.splice(0..0, blank_record(r)).for_each(drop),
         _ => {}
     }
     file
@@ -68,10 +72,10 @@ pub fn read(r: &mut Random, _: u64) -> Request {
     let bytes = some_file(r, &solid);
     let (coordinates, corners) = (solid.points.len(), solid.corners.len());
     let (coordinates, corners) = match r.below(6) {
-        0 => (coordinates.saturating_sub(1), corners),
-        1 => (coordinates, corners.saturating_sub(1)),
-        2 => (coordinates, corners),
-        3 => (r.below(400), r.below(800)),
+        0 | 1 => (coordinates.saturating_sub(1), corners),
+        2 => (coordinates, corners.saturating_sub(1)),
+        3 => (coordinates, corners),
+        4 => (r.below(400), r.below(800)),
         _ => (384, 768),
     };
     Request::Read { bytes, coordinates, corners }
@@ -90,9 +94,13 @@ pub fn cut(r: &mut Random, number: u64) -> Request {
 
 /// The writer: solids with and without faults, rooms that just suffice and rooms one short.
 pub fn written(r: &mut Random, _: u64) -> Request {
-    let mut solid = if r.once_in(16) { largest(r).0 } else { pick_pair(r).0 };
-    if r.once_in(2) {
-        put_faults(r, &mut solid, 8);
+    let (mut solid, _) = match r.below(12) {
+        0 => largest(r),
+        1..=5 => signed_zeros(r),
+        _ => pick_pair(r),
+    };
+    if r.once_in(3) {
+        put_faults(r, &mut solid);
     }
     let bytes = records(&solid).len();
     let room = match r.below(5) {
@@ -104,62 +112,61 @@ pub fn written(r: &mut Random, _: u64) -> Request {
     Request::Write { solid, room }
 }
 
-/// The program: right and wrong letters, whole and damaged files, trailing bytes.
-pub fn program(r: &mut Random, _: u64) -> Request {
-    let bytes = match r.below(12) {
-        0 => r.pick(&[&b""[..], b"U", b"D", b"x", b"UEN", b"IENEN", b"DENEN", b"UENENE", b"\0ENEN", b"uENEN"]).to_vec(),
-        1 => near_byte_limit(r),
-        2 => near_room(r),
-        3 => near_room(r),
-        _ => {
-            let (mut a, mut b) = pick_pair(r);
-            if r.once_in(3) {
-                put_faults(r, &mut a, 8);
-                put_faults(r, &mut b, 8);
-            }
-            input_of(r, &(a, b))
-        }
-    };
-    Request::Solid { bytes }
+/// The letter, A's file, B's file, and what follows.
+fn input_of(letter: u8, a: &[u8], b: &[u8], behind: &[u8]) -> Request {
+    Request::Solid { bytes: [&[letter], a, b, behind].concat() }
 }
 
-fn input_of(r: &mut Random, (a, b): &Pair) -> Vec<u8> {
-    let letter = if r.once_in(6) { r.pick(b"uidABEVX \n\0\xff") } else { r.pick(b"UID") };
-    let once_damaged = r.once_in(3);
-    let file = |r: &mut Random, solid: &Solid| if once_damaged { some_file(r, solid) } else { records(solid) };
-    let mut input = [&[letter][..], &file(r, a)[..], &file(r, b)[..]].concat();
-    if r.once_in(8) {
-        input.extend(r.pick(&[&b"\n"[..], b"EN", b"\0", b"VX"]));
+/// The program: whole and damaged files, solids with faults, trailing bytes.
+pub fn program(r: &mut Random, _: u64) -> Request {
+    let (mut a, mut b) = pick_pair(r);
+    let (faults, damaged) = (r.below(4), r.below(5));
+    if faults & 1 == 1 {
+        put_faults(r, &mut a);
     }
-    input
+    if faults & 2 == 2 {
+        put_faults(r, &mut b);
+    }
+    let file_a = if damaged == 0 { some_file(r, &a) } else { records(&a) };
+    let file_b = if damaged > 2 { some_file(r, &b) } else { records(&b) };
+    let behind = if r.once_in(6) { r.pick(&[&b"\n"[..], b"EN", b"\0", b"VX"]) } else { b"" };
+    input_of(r.pick(b"UID"), &file_a, &file_b, behind)
+}
+
+/// The program's letter: wrong, in lower case or missing, before right and wrong files.
+pub fn letters(r: &mut Random, _: u64) -> Request {
+    let short = [&b""[..], b"U", b"D", b"x", b"UEN", b"IENEN", b"DENEN", b"UENENE", b"\0ENEN", b"uENEN", b"EN", b"ENEN"];
+    if r.once_in(3) {
+        return Request::Solid { bytes: r.pick(&short).to_vec() };
+    }
+    let (a, b) = pick_pair(r);
+    let file_a = if r.once_in(2) { some_file(r, &a) } else { records(&a) };
+    let behind = if r.once_in(2) { b"EN" } else { &b""[..] };
+    input_of(r.pick(b"UuidiuduidABEVX \n\0\xff"), &file_a, &records(&b), behind)
 }
 
 /// An input just under, at or just over 32,768 bytes. With both layouts right its length is
-/// odd, so that at the limit itself there is a fault besides; then a wrong letter, 2 or 9.
-fn near_byte_limit(r: &mut Random) -> Vec<u8> {
-    let length = r.pick(&[32_767, 32_767, 32_768, 32_769, 32_769, 40_001]);
-    let mut input = vec![r.pick(b"UIDUIDx")];
-    let vertices = if r.once_in(2) { 20 } else { 1_100 };
-    let solid = Solid { points: vec![0.5; 3 * vertices], corners: Vec::new() };
-    input.extend(records(&solid));
-    // The rest is B's file: facets, and as many vertices as make up the bytes that are left.
-    let left = length - input.len() - 2;
+/// odd, so that at the limit itself there is a fault besides.
+pub fn byte_limit(r: &mut Random, _: u64) -> Request {
+    let length = r.pick(&[32_765, 32_767, 32_767, 32_768, 32_769, 32_769, 32_770, 40_001]);
+    let vertices = r.pick(&[20, 128, 1_100]);
+    let a = records(&Solid { points: vec![0.5; 3 * vertices], corners: Vec::new() });
+    // B's file: as many vertices as make the bytes that are left whole records of facets.
+    let left = length - 1 - a.len() - 2;
     let vertices = (0..7).find(|vertices| (left - 26 * vertices) % 14 < 2).unwrap_or(0);
     let facets = (left - 26 * vertices) / 14;
-    input.extend(records(&Solid { points: vec![-0.0; 3 * vertices], corners: vec![0; 3 * facets] }));
-    if r.once_in(4) {
-        input[1] = b'x';
-    }
-    input.resize(length, b'E');
-    input
+    let b = records(&Solid { points: vec![-0.0; 3 * vertices], corners: vec![0; 3 * facets] });
+    let behind = vec![b'E'; length - 1 - a.len() - b.len()];
+    input_of(r.pick(b"UIDUIDUIDx"), &a, &b, &behind)
 }
 
 /// An input whose result has just so many vertices or triangles as there is room for, or more.
-fn near_room(r: &mut Random) -> Vec<u8> {
-    let (vertices, triangles) = r.pick(&[(511, 0), (512, 0), (513, 0), (512, 1_022), (512, 1_024), (512, 1_026), (500, 1_024)]);
-    let (letter, code) = r.pick(&[(b'U', 0), (b'D', 2)]);
-    let (a, b) = sized(r, code, vertices, triangles);
-    [&[letter][..], &records(&a)[..], &records(&b)[..]].concat()
+pub fn program_room(r: &mut Random, _: u64) -> Request {
+    let sizes = [(511, 1_000), (512, 1_008), (512, 1_024), (513, 1_000), (512, 1_022), (510, 1_026), (500, 1_024)];
+    let (vertices, triangles) = r.pick(&sizes);
+    let (a, b) = sized(r, vertices, triangles);
+    let letter = if r.once_in(8) { r.pick(b"ID") } else { b'U' };
+    input_of(letter, &records(&a), &records(&b), b"")
 }
 
 /// Any corner lists with any origins.
@@ -190,9 +197,9 @@ pub fn rooms(r: &mut Random, _: u64) -> Request {
     match r.below(8) {
         0 => room.coordinates = room.coordinates.saturating_sub(1),
         1 => room.corners = room.corners.saturating_sub(1),
-        2 => room.origins = room.origins.saturating_sub(1),
-        3 => room.coordinates += 2,
-        4 => room.corners = u32::MAX as usize,
+        2 | 3 => room.origins = room.origins.saturating_sub(1),
+        4 => room.coordinates += 2,
+        5 => room.corners = u32::MAX as usize,
         _ => {}
     }
     Request::Op { code, a, b, room }

@@ -37,6 +37,9 @@ pub fn signed_zeros(r: &mut Random) -> Pair {
 
 /// Sums of tetrahedra over shared vertices: counts beyond 1, below 0, and doubled facets.
 pub fn sums(r: &mut Random) -> Pair {
+    if r.once_in(3) {
+        return many_times_round(r);
+    }
     let kind = r.pick(&[few_integers as Kind, tenths, reals]);
     let points_a = points(r, kind, 7);
     let points_b = if r.once_in(3) { points_a.clone() } else { points(r, kind, 7) };
@@ -45,6 +48,15 @@ pub fn sums(r: &mut Random) -> Pair {
         sum_of_tetrahedra(r, &points[..vertices], number)
     };
     (side(&points_a), side(&points_b))
+}
+
+/// A tetrahedron several times over the same vertices, round another body or through it.
+fn many_times_round(r: &mut Random) -> Pair {
+    let once = moved(&sample(), 1.0, [-1.0, -1.0, -1.0]);
+    let round = Solid { corners: once.corners.repeat(2 + r.below(2)), ..once };
+    let kind = r.pick(&[few_integers as Kind, tenths, reals]);
+    let (a, b) = (mixed(r, &round), small_body(r, kind));
+    if r.once_in(2) { (a, b) } else { (b, a) }
 }
 
 /// Plain reals: tetrahedra, hull-like bodies and tori that cross as a rule.
@@ -196,14 +208,14 @@ pub fn again(r: &mut Random) -> Pair {
     if r.once_in(2) { (first, second) } else { (second, first) }
 }
 
-/// The largest sizes: 128 vertices, 256 facets. Many facets together, or not at all.
+/// The largest sizes: 128 vertices, 256 facets; also vertices without facets, and grids.
 pub fn largest(r: &mut Random) -> Pair {
-    match r.below(8) {
-        0 => (largest_body(r), largest_body(r)),
-        1 | 2 => (largest_body(r), any_body(r)),
-        3 | 4 => (any_body(r), largest_body(r)),
-        5 => {
-            let (rows, columns) = (2 + r.below(3), 2 + r.below(3));
+    match r.below(24) {
+        0 | 1 => (largest_body(r), largest_body(r)),
+        2..=8 => (largest_body(r), small_body(r, reals)),
+        9..=16 => (small_body(r, reals), largest_body(r)),
+        17..=19 => {
+            let (rows, columns) = (2 + r.below(2), 2 + r.below(2));
             super::rods::grid(r, rows, columns)
         }
         _ => (solid_of(&points(r, integers, MOST_VERTICES), &[]), any_body(r)),

@@ -29,7 +29,7 @@ fn place_number(r: &mut Random, solid: &mut Solid, number: f64) {
 }
 
 /// One vertex too many, or many too many.
-fn too_many_vertices(r: &mut Random, solid: &mut Solid) {
+pub fn too_many_vertices(r: &mut Random, solid: &mut Solid) {
     let number = MOST_VERTICES + r.pick(&[1, 1, 2, 100]);
     while solid.points.len() < 3 * number {
         solid.points.extend(point(r, extremes));
@@ -37,7 +37,7 @@ fn too_many_vertices(r: &mut Random, solid: &mut Solid) {
 }
 
 /// Some facets too many, closed or not.
-fn too_many_facets(r: &mut Random, solid: &mut Solid) {
+pub fn too_many_facets(r: &mut Random, solid: &mut Solid) {
     let number = MOST_FACETS + r.pick(&[1, 2, 2, 50]);
     while solid.corners.len() < 3 * number {
         solid.corners.extend([0, 1, 2, 0, 2, 1]);
@@ -90,43 +90,59 @@ fn uneven(r: &mut Random, solid: &mut Solid) {
     }
 }
 
-/// Puts faults into a solid, each of the eight kinds once in so many times.
-pub fn put_faults(r: &mut Random, solid: &mut Solid, once_in: usize) {
-    let faults: [fn(&mut Random, &mut Solid); 8] = [
-        opened,
-        named_twice,
-        corner_beyond,
-        |r, solid| {
-            let number = beyond_limit(r);
-            place_number(r, solid, number);
-        },
-        |r, solid| {
-            let number = blank(r);
-            place_number(r, solid, number);
-        },
-        too_many_facets,
-        too_many_vertices,
-        uneven,
-    ];
-    for fault in faults {
-        if r.once_in(once_in) {
-            fault(r, solid);
+fn number_beyond(r: &mut Random, solid: &mut Solid) {
+    let number = beyond_limit(r);
+    place_number(r, solid, number);
+}
+
+fn one_blank(r: &mut Random, solid: &mut Solid) {
+    let number = blank(r);
+    place_number(r, solid, number);
+}
+
+/// Blanks only: a blank solid, which is not the empty one.
+fn all_blank(r: &mut Random, solid: &mut Solid) {
+    solid.points = (0..solid.points.len()).map(|_| blank(r)).collect();
+}
+
+fn blank_and_beyond(r: &mut Random, solid: &mut Solid) {
+    one_blank(r, solid);
+    number_beyond(r, solid);
+}
+
+type Fault = fn(&mut Random, &mut Solid);
+
+/// Faults that are refused by 3 to 6.
+const INNER_FAULTS: [Fault; 7] =
+    [opened, named_twice, corner_beyond, number_beyond, one_blank, all_blank, blank_and_beyond];
+
+/// Puts one fault into a solid that is refused by 3 to 6.
+pub fn put_inner_fault(r: &mut Random, solid: &mut Solid) {
+    r.pick(&INNER_FAULTS)(r, solid);
+}
+
+/// Puts one fault into a solid, or some of any kinds, or none.
+pub fn put_faults(r: &mut Random, solid: &mut Solid) {
+    for _ in 0..r.pick(&[0, 1, 1, 1, 2, 2, 3, 5]) {
+        match r.below(10) {
+            0 => too_many_facets(r, solid),
+            1 => too_many_vertices(r, solid),
+            2 => uneven(r, solid),
+            _ => put_inner_fault(r, solid),
         }
-    }
-    if r.once_in(3 * once_in) {
-        solid.points = (0..solid.points.len()).map(|_| blank(r)).collect();
     }
 }
 
 /// An operation with faults in the code, in A, in B and in the room.
 pub fn operation(r: &mut Random, _: u64) -> Request {
     let (mut a, mut b) = pick_pair(r);
-    let once_in = r.pick(&[3, 8, 30]);
     if !r.once_in(3) {
-        put_faults(r, &mut a, once_in);
+        put_faults(r, &mut a);
     }
-    put_faults(r, &mut b, once_in);
-    let code = if r.once_in(5) { r.pick(&[3, 4, 85, 256, 257, 65_536, 1 << 31, u32::MAX]) } else { r.below(3) as u32 };
+    if !r.once_in(3) {
+        put_faults(r, &mut b);
+    }
+    let code = if r.once_in(3) { r.pick(&[3, 4, 85, 256, 257, 65_536, 1 << 31, u32::MAX]) } else { r.below(3) as u32 };
     let least = r.pick(&[0, 9_000, 9_000, 9_000]);
     Request::Op { code, a, b, room: Room { coordinates: least, corners: 2 * least, origins: least } }
 }
@@ -134,11 +150,10 @@ pub fn operation(r: &mut Random, _: u64) -> Request {
 /// A point count with faults in the point and in the solid.
 pub fn count(r: &mut Random, _: u64) -> Request {
     let (mut solid, other) = pick_pair(r);
-    let once_in = r.pick(&[3, 8, 30]);
-    put_faults(r, &mut solid, once_in);
+    put_faults(r, &mut solid);
     let mut point = other.point(r.below(other.vertices()));
     for fault in [beyond_limit, blank] {
-        if r.once_in(4) {
+        if r.once_in(3) {
             point[r.below(3)] = fault(r);
         }
     }
@@ -148,7 +163,6 @@ pub fn count(r: &mut Random, _: u64) -> Request {
 /// A solid with faults to be admitted, or without.
 pub fn admit(r: &mut Random, _: u64) -> Request {
     let (mut solid, _) = pick_pair(r);
-    let once_in = r.pick(&[3, 6, 12]);
-    put_faults(r, &mut solid, once_in);
+    put_faults(r, &mut solid);
     Request::Admit { solid }
 }

@@ -8,56 +8,72 @@ use super::random::Random;
 use crate::admission::{Solid, MOST_FACETS, MOST_VERTICES};
 use crate::result::operation;
 
+/// A rod along x (axis 0) or y (axis 1) at this place on the other axis, at this height.
+fn rod(r: &mut Random, axis: usize, place: f64, height: f64) -> Solid {
+    let mut low = [-1.0, -1.0, height].map(|number| number + 0.1 * reals(r));
+    let mut high = [20.0, 20.0, height + 0.5].map(|number| number + 0.1 * reals(r));
+    low[1 - axis] = place + 0.1 * reals(r);
+    high[1 - axis] = low[1 - axis] + 0.3 + 0.1 * reals(r);
+    block(low, high)
+}
+
 /// Rods along x as A, and rods along y as B, each through all of the others.
 pub fn grid(r: &mut Random, rows: usize, columns: usize) -> Pair {
-    let mut rod = |axis: usize, at: usize| {
-        let mut low = [-1.0, -1.0, 0.0].map(|number| number + 0.1 * reals(r));
-        let mut high = [20.0, 20.0, 0.5].map(|number| number + 0.1 * reals(r));
-        low[1 - axis] = at as f64 + 0.1 * reals(r);
-        high[1 - axis] = low[1 - axis] + 0.3 + 0.1 * reals(r);
-        block(low, high)
-    };
-    let a: Vec<Solid> = (0..rows).map(|row| rod(0, row)).collect();
-    let b: Vec<Solid> = (0..columns).map(|column| rod(1, column)).collect();
+    let a: Vec<Solid> = (0..rows).map(|row| rod(r, 0, row as f64, 0.0)).collect();
+    let b: Vec<Solid> = (0..columns).map(|column| rod(r, 1, column as f64, 0.0)).collect();
     (together(&a), together(&b))
 }
 
-/// A grid whose union or difference has exactly these numbers of vertices and triangles, as
-/// far as A's sizes allow: A gets vertices that no facet uses, and facets twice, once each
-/// way round, all far away from B.
-pub fn sized(r: &mut Random, code: u32, vertices: usize, triangles: usize) -> Pair {
-    let (rows, columns) = r.pick(&[(4, 4), (5, 4), (4, 5), (6, 3), (3, 6)]);
-    let (mut a, b) = grid(r, rows, columns);
-    let Ok(outcome) = operation(code, &a, &b, ample()) else { return (a, b) };
-    let first = a.vertices() as u32;
-    let more = vertices.saturating_sub(outcome.vertices.len()).min(MOST_VERTICES - a.vertices());
-    let far: Vec<[f64; 3]> = (0..more).map(|number| [500.0, number as f64, 500.0]).collect();
-    a = with_unused(&a, &far);
-    let pairs = triangles.saturating_sub(outcome.triangles.len()).min(MOST_FACETS - a.facets()) / 2;
-    if more >= 3 {
-        (0..pairs).for_each(|_| a.corners.extend([0, 1, 2, 0, 2, 1].map(|corner| first + corner)));
+/// Needles along x as A, and needles along y as B, each through all of the others.
+fn crossing_needles(r: &mut Random, rows: usize, columns: usize, times: usize) -> Pair {
+    let a: Vec<Solid> = (0..rows).map(|row| needle(r, 0, row, times)).collect();
+    let b: Vec<Solid> = (0..columns).map(|column| needle(r, 1, column, times)).collect();
+    (together(&a), together(&b))
+}
+
+/// A long thin tetrahedron along an axis, so many times over the same vertices.
+fn needle(r: &mut Random, axis: usize, at: usize, times: usize) -> Solid {
+    let points = [(-60.0, -0.2, 0.0), (-60.0, 0.2, 0.0), (70.0, 0.0, -0.2), (70.0, 0.0, 0.2)].map(|(far, aside, up)| {
+        let mut point = [far, far, up + 0.02 * reals(r)];
+        point[1 - axis] = at as f64 + aside + 0.02 * reals(r);
+        point
+    });
+    let once = tetrahedron(points);
+    Solid { corners: once.corners.repeat(times), ..once }
+}
+
+/// Needles whose union has exactly these numbers of vertices and triangles: both solids get
+/// vertices that no facet uses, and A gets facets twice, once each way round, all far away.
+pub fn sized(r: &mut Random, vertices: usize, triangles: usize) -> Pair {
+    loop {
+        let (rows, columns) = r.pick(&[(3, 9), (4, 7), (4, 8), (3, 10)]);
+        let (a, b) = crossing_needles(r, rows, columns, 1);
+        let Ok(outcome) = operation(0, &a, &b, ample()) else { continue };
+        let (Some(unused), Some(leaves)) =
+            (vertices.checked_sub(outcome.vertices.len()), triangles.checked_sub(outcome.triangles.len()))
+        else {
+            continue;
+        };
+        let in_a = unused.min(MOST_VERTICES - a.vertices());
+        if in_a >= 3 && unused - in_a <= MOST_VERTICES - b.vertices() && leaves <= MOST_FACETS - a.facets() {
+            return (enlarged(&a, in_a, leaves / 2), enlarged(&b, unused - in_a, 0));
+        }
     }
-    (a, b)
+}
+
+/// The solid with vertices that no facet uses, far away, and with the facet of the first three
+/// of them so many times, each time once each way round.
+fn enlarged(solid: &Solid, unused: usize, leaves: usize) -> Solid {
+    let first = solid.vertices() as u32;
+    let far: Vec<[f64; 3]> = (0..unused).map(|number| [500.0, number as f64, 500.0]).collect();
+    let mut solid = with_unused(solid, &far);
+    (0..leaves).for_each(|_| solid.corners.extend([0, 1, 2, 0, 2, 1].map(|corner| first + corner)));
+    solid
 }
 
 /// Crossing needles, each several times over: results above 16,384 vertices or 65,536
 /// triangles, or not far below.
 pub fn needles(r: &mut Random) -> Pair {
-    let (number, times) = r.pick(&[(16, 2), (20, 2), (20, 3), (8, 8), (7, 8)]);
-    let side = |r: &mut Random, axis: usize| {
-        let parts: Vec<Solid> = (0..number).map(|at| needle(r, axis, at, times)).collect();
-        together(&parts)
-    };
-    (side(r, 0), side(r, 1))
-}
-
-/// A long thin tetrahedron along an axis, so many times over the same vertices.
-fn needle(r: &mut Random, axis: usize, at: usize, times: usize) -> Solid {
-    let points = [(-1.0, 0.0, 0.0), (-1.0, 0.4, 0.0), (40.0, 0.2, -0.2), (40.0, 0.2, 0.2)].map(|(far, aside, up)| {
-        let mut point = [far, far, up + 0.01 * reals(r)];
-        point[1 - axis] = at as f64 + aside + 0.01 * reals(r);
-        point
-    });
-    let once = tetrahedron(points);
-    Solid { corners: once.corners.repeat(times), ..once }
+    let (number, times) = r.pick(&[(16, 2), (20, 2), (32, 2), (6, 8), (6, 8), (7, 8)]);
+    crossing_needles(r, number, number, times)
 }

@@ -91,8 +91,9 @@ fn some_sliver(r: &mut Random, twice: bool) -> Sliver {
             continue;
         }
         for _ in 0..HEIGHTS {
-            let up = reals(r);
-            (0..5).for_each(|at| sliver[at][2] = shares[at] * up);
+            // An edge crosses twice only where the heights lie on a line as well.
+            let (on_line, up) = (twice || r.once_in(2), reals(r));
+            (0..5).for_each(|at| sliver[at][2] = if on_line { shares[at] * up } else { reals(r) });
             match edge_facet(&edge_of(sliver), &facet_of(sliver)).count().abs() {
                 0 => {}
                 1 if twice => {}
