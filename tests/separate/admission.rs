@@ -47,7 +47,11 @@ impl Solid {
 }
 
 fn refuse_if(fault: bool, number: u8) -> Answer<()> {
-    if fault { Err(Refusal(number)) } else { Ok(()) }
+    if fault {
+        Err(Refusal(number))
+    } else {
+        Ok(())
+    }
 }
 
 /// 1: a list's length is not a multiple of three.
@@ -139,7 +143,8 @@ pub fn admitted(solid: &Solid) -> Answer<Body> {
     }
     let points: Vec<Point> = (0..solid.vertices()).map(|vertex| solid.point(vertex)).collect();
     let (edge_ends, numbers) = edges_of(solid);
-    let edges: Vec<Edge> = edge_ends.iter().map(|&[s, e]| Edge { start: points[s], end: points[e] }).collect();
+    let edges: Vec<Edge> =
+        edge_ends.iter().map(|&[s, e]| Edge { start: points[s], end: points[e] }).collect();
     let side = |from: usize, to: usize| {
         let edge = numbers[from * points.len() + to];
         Side { edge, along: edge_ends[edge] == [from, to] }

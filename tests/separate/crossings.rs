@@ -7,9 +7,9 @@ use crate::tally;
 /// A point is three f64 numbers: head, flow and output, called x, y, z.
 pub type Point = [f64; 3];
 
-const HEAD: usize = 0;
+pub const HEAD: usize = 0;
 const FLOW: usize = 1;
-const OUTPUT: usize = 2;
+pub const OUTPUT: usize = 2;
 
 /// An edge runs from its start to its end.
 #[derive(Clone, Copy)]
@@ -29,7 +29,7 @@ pub struct HalfEdge {
 pub type Facet = [HalfEdge; 3];
 
 /// Two points, one on each thing.
-#[derive(Clone, Copy)]
+#[derive(Clone, Copy, PartialEq)]
 pub struct PointPair {
     pub a: Point,
     pub b: Point,
@@ -75,7 +75,7 @@ impl Crossing {
 
     /// "S equals X if X is not 0 and B's coordinate at the pair of points is at least A's;
     /// otherwise S is 0."
-    fn s(&self, coordinate: usize) -> i64 {
+    pub fn s(&self, coordinate: usize) -> i64 {
         match self {
             Crossing::Cross { count, points } if points.at_least(coordinate) => *count,
             _ => 0,
@@ -85,7 +85,9 @@ impl Crossing {
     /// "A half-edge against its edge has the negated value and the same points."
     pub fn of_half_edge(self, along: bool) -> Crossing {
         match self {
-            Crossing::Cross { count, points } if !along => Crossing::Cross { count: -count, points },
+            Crossing::Cross { count, points } if !along => {
+                Crossing::Cross { count: -count, points }
+            }
             same => same,
         }
     }
@@ -128,7 +130,11 @@ fn from_lower(of_a: &[Lower], of_b: &[Lower], coordinate: usize) -> Crossing {
 
 /// "Among the lower pairings that have X not 0, take the first with B at least A (plus) and
 /// the first with B below A (minus)."
-fn plus_and_minus(of_a: &[Lower], of_b: &[Lower], coordinate: usize) -> Option<(PointPair, PointPair)> {
+fn plus_and_minus(
+    of_a: &[Lower],
+    of_b: &[Lower],
+    coordinate: usize,
+) -> Option<(PointPair, PointPair)> {
     let (first, then) = if slip() == Slip::BFirst { (of_b, of_a) } else { (of_a, of_b) };
     let crossed = first.iter().chain(then).filter_map(|lower| lower.crossing.points());
     let mut plus = crossed.clone().filter(|points| points.at_least(coordinate));
@@ -152,7 +158,9 @@ fn point_at(t: f64, plus: Point, minus: Point) -> Point {
     if slip() == Slip::VertexShortcut && plus.map(f64::to_bits) == minus.map(f64::to_bits) {
         return plus;
     }
-    std::array::from_fn(|coordinate| held(number_at(t, plus[coordinate], minus[coordinate]), plus[coordinate], minus[coordinate]))
+    std::array::from_fn(|coordinate| {
+        held(number_at(t, plus[coordinate], minus[coordinate]), plus[coordinate], minus[coordinate])
+    })
 }
 
 /// "Each coordinate of A's point is p - t*(p - m)." Each operation is rounded once to f64.
@@ -175,7 +183,11 @@ fn held(number: f64, p: f64, m: f64) -> f64 {
         return number;
     }
     tally::held();
-    if slip() == Slip::HoldAtMinus { m } else { p }
+    if slip() == Slip::HoldAtMinus {
+        m
+    } else {
+        p
+    }
 }
 
 /// "Two vertices: X = 1, the points are the vertices."
@@ -218,7 +230,10 @@ pub fn edge_edge_from([s_a, e_a]: [Crossing; 2], [s_b, e_b]: [Crossing; 2]) -> C
 }
 
 pub fn edge_edge(a: &Edge, b: &Edge) -> Crossing {
-    edge_edge_from([a.start, a.end].map(|end| vertex_edge(end, b)), [b.start, b.end].map(|end| edge_vertex(a, end)))
+    edge_edge_from(
+        [a.start, a.end].map(|end| vertex_edge(end, b)),
+        [b.start, b.end].map(|end| edge_vertex(a, end)),
+    )
 }
 
 /// X(eA,fB) = S(s,fB) - S(e,fB) - sum S(eA,h), from A's start and end with the facet, and the
@@ -264,5 +279,9 @@ pub fn contained_in_a(facets: impl Iterator<Item = Crossing>) -> i64 {
 /// A count stands as it is: "a badly shaped solid may contain a point twice or -1 times".
 fn capped(count: i64) -> i64 {
     tally::contained(count);
-    if slip() == Slip::CountsCapped { count.min(1) } else { count }
+    if slip() == Slip::CountsCapped {
+        count.min(1)
+    } else {
+        count
+    }
 }

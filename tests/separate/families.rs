@@ -9,6 +9,7 @@ mod refusals;
 mod rods;
 mod tight;
 
+pub use self::bodies::t;
 use self::numbers::{beside, on_the_way};
 use self::pairs::Pair;
 use self::random::Random;
@@ -69,12 +70,10 @@ fn asked(r: &mut Random, pair: fn(&mut Random) -> Pair) -> Request {
 
 /// The largest sizes, and seldom results near or above the most that a room can hold.
 fn largest(r: &mut Random, _: u64) -> Request {
-    if !r.once_in(48) {
-        return asked(r, pairs::largest);
-    }
-    let (a, b) = rods::needles(r);
-    let most = u32::MAX as usize;
-    Request::Op { code: r.below(3) as u32, a, b, room: Room { coordinates: most, corners: most, origins: most } }
+    let (a, b) = if r.once_in(48) { rods::needles(r) } else { pairs::largest(r) };
+    let most = r.pick(&[1 << 18, u32::MAX as usize]);
+    let room = Room { coordinates: most, corners: most, origins: most };
+    Request::Op { code: r.below(3) as u32, a, b, room }
 }
 
 /// Point counts in solids of all small families: at vertices, on edges and facets, and an ulp
@@ -90,7 +89,13 @@ fn contains(r: &mut Random, _: u64) -> Request {
 
 fn count_in(r: &mut Random, solid: Solid, other: &Solid) -> Request {
     let from = if other.vertices() > 0 && r.once_in(2) { other } else { &solid };
-    let vertex = |r: &mut Random| if from.vertices() == 0 { [0.5; 3] } else { from.point(r.below(from.vertices())) };
+    let vertex = |r: &mut Random| {
+        if from.vertices() == 0 {
+            [0.5; 3]
+        } else {
+            from.point(r.below(from.vertices()))
+        }
+    };
     let (p, q, s) = (vertex(r), vertex(r), vertex(r));
     let place: Point = match r.below(4) {
         0 => p,

@@ -106,7 +106,11 @@ pub fn write(solid: &Solid, room: usize) -> Answer<Vec<u8>> {
         solid.points.iter_mut().for_each(|number| *number += 0.0);
     }
     let bytes = records(&solid);
-    if bytes.len() > room { Err(Refusal(8)) } else { Ok(bytes) }
+    if bytes.len() > room {
+        Err(Refusal(8))
+    } else {
+        Ok(bytes)
+    }
 }
 
 fn letter_code(letter: u8) -> Answer<u32> {
@@ -146,8 +150,13 @@ pub fn program(input: &[u8]) -> Answer<(usize, usize)> {
         return Err(Refusal(9));
     }
     let (a, b) = two_files(files)?;
-    let vertices = if slip() == Slip::ProgramRoom { PROGRAM_VERTICES - 1 } else { PROGRAM_VERTICES };
-    let room = Room { coordinates: 3 * vertices, corners: 3 * PROGRAM_TRIANGLES, origins: PROGRAM_TRIANGLES };
+    let vertices =
+        if slip() == Slip::ProgramRoom { PROGRAM_VERTICES - 1 } else { PROGRAM_VERTICES };
+    let room = Room {
+        coordinates: 3 * vertices,
+        corners: 3 * PROGRAM_TRIANGLES,
+        origins: PROGRAM_TRIANGLES,
+    };
     let outcome = operation(code, &a, &b, room)?;
     Ok((outcome.vertices.len(), outcome.triangles.len()))
 }

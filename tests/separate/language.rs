@@ -32,7 +32,9 @@ pub struct Words<'t> {
 
 impl<'t> Words<'t> {
     pub fn of(text: &'t str) -> Words<'t> {
-        let line_words = |line: &'t str| line.split_ascii_whitespace().enumerate().map(|(place, word)| (word, place == 0));
+        let line_words = |line: &'t str| {
+            line.split_ascii_whitespace().enumerate().map(|(place, word)| (word, place == 0))
+        };
         Words { words: text.split('\n').flat_map(line_words).collect(), at: 0 }
     }
 
@@ -51,12 +53,32 @@ impl<'t> Words<'t> {
 
     fn whole_request(&mut self) -> Option<Request> {
         match self.one_of(&REQUEST_WORDS)? {
-            "op" => Some(Request::Op { code: self.number()?, a: self.solid("ap", "ac")?, b: self.solid("bp", "bc")?, room: self.room()? }),
-            "count" => Some(Request::Count { as_a: self.one_of(&["A", "B"])? == "A", point: self.point()?, solid: self.solid("sp", "sc")? }),
+            "op" => Some(Request::Op {
+                code: self.number()?,
+                a: self.solid("ap", "ac")?,
+                b: self.solid("bp", "bc")?,
+                room: self.room()?,
+            }),
+            "count" => Some(Request::Count {
+                as_a: self.one_of(&["A", "B"])? == "A",
+                point: self.point()?,
+                solid: self.solid("sp", "sc")?,
+            }),
             "admit" => Some(Request::Admit { solid: self.solid("sp", "sc")? }),
-            "shown" => Some(Request::Shown { a: self.corners("ac")?, b: self.corners("bc")?, origin: self.named_number("origin")? }),
-            "read" => Some(Request::Read { bytes: self.bytes()?, coordinates: self.named_number("room")?, corners: self.number()? }),
-            "write" => Some(Request::Write { solid: self.solid("sp", "sc")?, room: self.named_number("room")? }),
+            "shown" => Some(Request::Shown {
+                a: self.corners("ac")?,
+                b: self.corners("bc")?,
+                origin: self.named_number("origin")?,
+            }),
+            "read" => Some(Request::Read {
+                bytes: self.bytes()?,
+                coordinates: self.named_number("room")?,
+                corners: self.number()?,
+            }),
+            "write" => Some(Request::Write {
+                solid: self.solid("sp", "sc")?,
+                room: self.named_number("room")?,
+            }),
             _ => Some(Request::Solid { bytes: self.bytes()? }),
         }
     }
@@ -73,7 +95,9 @@ impl<'t> Words<'t> {
     }
 
     fn number<N: std::str::FromStr>(&mut self) -> Option<N> {
-        self.next(|word| word.bytes().all(|digit| digit.is_ascii_digit()).then(|| word.parse().ok())?)
+        self.next(|word| {
+            word.bytes().all(|digit| digit.is_ascii_digit()).then(|| word.parse().ok())?
+        })
     }
 
     fn named_number<N: std::str::FromStr>(&mut self, name: &str) -> Option<N> {
@@ -102,7 +126,11 @@ impl<'t> Words<'t> {
     }
 
     fn room(&mut self) -> Option<Room> {
-        Some(Room { coordinates: self.named_number("room")?, corners: self.number()?, origins: self.number()? })
+        Some(Room {
+            coordinates: self.named_number("room")?,
+            corners: self.number()?,
+            origins: self.number()?,
+        })
     }
 
     fn bytes(&mut self) -> Option<Vec<u8>> {
@@ -259,9 +287,13 @@ fn count(as_a: bool, point: Point, solid: &Solid) -> Answer<i64> {
 /// The lines that answer a request, without the full stop.
 pub fn answer(request: &Request) -> String {
     match request {
-        Request::Op { code, a, b, room } => lines(operation(*code, a, b, capped(*room)), " 0 0", write_outcome),
+        Request::Op { code, a, b, room } => {
+            lines(operation(*code, a, b, capped(*room)), " 0 0", write_outcome)
+        }
         Request::Count { as_a, point, solid } => {
-            lines(count(*as_a, *point, solid), " 0", |text, count| writeln!(text, "0 {count}").unwrap())
+            lines(count(*as_a, *point, solid), " 0", |text, count| {
+                writeln!(text, "0 {count}").unwrap()
+            })
         }
         Request::Admit { solid } => lines(check(solid), "", |text, ()| text.push_str("0\n")),
         Request::Shown { a, b, origin } => {
@@ -277,8 +309,10 @@ pub fn answer(request: &Request) -> String {
             write_hex(text, &bytes);
             text.push('\n');
         }),
-        Request::Solid { bytes } => lines(house::program(bytes), " 0 0", |text, (vertices, triangles)| {
-            writeln!(text, "0 {vertices} {triangles}").unwrap();
-        }),
+        Request::Solid { bytes } => {
+            lines(house::program(bytes), " 0 0", |text, (vertices, triangles)| {
+                writeln!(text, "0 {vertices} {triangles}").unwrap();
+            })
+        }
     }
 }

@@ -17,7 +17,10 @@ struct Table {
 
 impl Table {
     fn of(rows: usize, columns: usize, crossing: impl Fn(usize, usize) -> Crossing) -> Table {
-        Table { columns, crossings: each(rows, columns).map(|(row, column)| crossing(row, column)).collect() }
+        Table {
+            columns,
+            crossings: each(rows, columns).map(|(row, column)| crossing(row, column)).collect(),
+        }
     }
 
     fn at(&self, row: usize, column: usize) -> Crossing {
@@ -35,8 +38,10 @@ pub struct Pairings<'s> {
 
 impl<'s> Pairings<'s> {
     pub fn of(a: &'s Body, b: &'s Body) -> Pairings<'s> {
-        let vertex_edge = Table::of(a.points.len(), b.edges.len(), |v, e| vertex_edge(a.points[v], &b.edges[e]));
-        let edge_vertex = Table::of(a.edges.len(), b.points.len(), |e, v| edge_vertex(&a.edges[e], b.points[v]));
+        let vertex_edge =
+            Table::of(a.points.len(), b.edges.len(), |v, e| vertex_edge(a.points[v], &b.edges[e]));
+        let edge_vertex =
+            Table::of(a.edges.len(), b.points.len(), |e, v| edge_vertex(&a.edges[e], b.points[v]));
         let vertex_facet = Table::of(a.points.len(), b.facets.len(), |v, f| {
             vertex_facet_from(b.sides[f].map(|side| of_side(side, vertex_edge.at(v, side.edge))))
         });
@@ -52,12 +57,19 @@ impl<'s> Pairings<'s> {
 
     pub fn edge_facet(&self, edge: usize, facet: usize) -> Crossing {
         let ends = self.a.edge_ends[edge].map(|end| self.vertex_facet.at(end, facet));
-        edge_facet_from(ends, self.b.sides[facet].map(|side| of_side(side, self.edge_edge.at(edge, side.edge))))
+        edge_facet_from(
+            ends,
+            self.b.sides[facet].map(|side| of_side(side, self.edge_edge.at(edge, side.edge))),
+        )
     }
 
     pub fn facet_edge(&self, facet: usize, edge: usize) -> Crossing {
-        let half_edges = self.a.sides[facet].map(|side| of_side(side, self.edge_edge.at(side.edge, edge)));
-        facet_edge_from(half_edges, self.b.edge_ends[edge].map(|end| self.facet_vertex.at(facet, end)))
+        let half_edges =
+            self.a.sides[facet].map(|side| of_side(side, self.edge_edge.at(side.edge, edge)));
+        facet_edge_from(
+            half_edges,
+            self.b.edge_ends[edge].map(|end| self.facet_vertex.at(facet, end)),
+        )
     }
 
     pub fn contained_in_b(&self, vertex: usize) -> i64 {

@@ -58,7 +58,11 @@ pub fn operation(code: u32, a: &Solid, b: &Solid, room: Room) -> Answer<Outcome>
     let short = 3 * outcome.vertices.len() > room.coordinates
         || 3 * outcome.triangles.len() > room.corners
         || (outcome.triangles.len() > room.origins && slip() != Slip::OriginsUnroomed);
-    if short { Err(Refusal(8)) } else { Ok(outcome) }
+    if short {
+        Err(Refusal(8))
+    } else {
+        Ok(outcome)
+    }
 }
 
 /// What may become a vertex of the result: its inclusion, and its number if that is not 0.
@@ -101,16 +105,28 @@ impl<'s> Making<'s> {
         let pairings = Pairings::of(a, b);
         let mut vertices = Vec::new();
         let mut keep = |inclusion, point| keep(&mut vertices, inclusion, point);
-        let inclusion_a = |vertex| if dropped(a, vertex) { 0 } else { c_a + c_i * pairings.contained_in_b(vertex) };
-        let a_vertices = (0..a.points.len()).map(|vertex| keep(inclusion_a(vertex), a.points[vertex])).collect();
+        let inclusion_a = |vertex| {
+            if dropped(a, vertex) {
+                0
+            } else {
+                c_a + c_i * pairings.contained_in_b(vertex)
+            }
+        };
+        let a_vertices =
+            (0..a.points.len()).map(|vertex| keep(inclusion_a(vertex), a.points[vertex])).collect();
         let mut crossed = |crossing| match crossing {
             Crossing::Miss => keep(0, [0.0; 3]),
             Crossing::Cross { count, points } => keep(c_i * count, new_vertex(points.a, points.b)),
         };
-        let edge_facet = each(a.edges.len(), b.facets.len()).map(|(e, f)| crossed(pairings.edge_facet(e, f))).collect();
-        let facet_edge = each(a.facets.len(), b.edges.len()).map(|(f, e)| crossed(pairings.facet_edge(f, e))).collect();
+        let edge_facet = each(a.edges.len(), b.facets.len())
+            .map(|(e, f)| crossed(pairings.edge_facet(e, f)))
+            .collect();
+        let facet_edge = each(a.facets.len(), b.edges.len())
+            .map(|(f, e)| crossed(pairings.facet_edge(f, e)))
+            .collect();
         let inclusion_b = |vertex| c_b + c_i * pairings.contained_in_a(vertex);
-        let b_vertices = (0..b.points.len()).map(|vertex| keep(inclusion_b(vertex), b.points[vertex])).collect();
+        let b_vertices =
+            (0..b.points.len()).map(|vertex| keep(inclusion_b(vertex), b.points[vertex])).collect();
         Making { a, b, vertices, a_vertices, edge_facet, facet_edge, b_vertices }
     }
 
@@ -128,7 +144,9 @@ impl<'s> Making<'s> {
         let [start, end] = self.b.edge_ends[edge];
         let width = self.b.edges.len();
         let mut ends = vec![end_of(-1, self.b_vertices[start]), end_of(1, self.b_vertices[end])];
-        ends.extend((0..self.a.facets.len()).map(|facet| end_of(1, self.facet_edge[facet * width + edge])));
+        ends.extend(
+            (0..self.a.facets.len()).map(|facet| end_of(1, self.facet_edge[facet * width + edge])),
+        );
         if slip() == Slip::CrossingsFirst {
             ends.rotate_left(2);
         }
@@ -184,7 +202,11 @@ fn dropped(a: &Body, vertex: usize) -> bool {
 
 /// "A new vertex in a result is A's point."
 fn new_vertex(a: Point, b: Point) -> Point {
-    if slip() == Slip::BPoint { b } else { a }
+    if slip() == Slip::BPoint {
+        b
+    } else {
+        a
+    }
 }
 
 /// "Each only if its inclusion is not 0, copied once." Equal vertices stay apart.
@@ -229,7 +251,9 @@ fn pieces_of_sides(sides: &[Side; 3], of_edges: &[Vec<Piece>]) -> Vec<Piece> {
         let of_edge = of_edges[side.edge].iter();
         match (side.along, slip()) {
             (true, _) => pieces.extend(of_edge),
-            (false, Slip::AgainstReversed) => pieces.extend(of_edge.rev().map(|&piece| turned(piece))),
+            (false, Slip::AgainstReversed) => {
+                pieces.extend(of_edge.rev().map(|&piece| turned(piece)))
+            }
             (false, _) => pieces.extend(of_edge.map(|&piece| turned(piece))),
         }
     }
@@ -240,7 +264,11 @@ fn pieces_of_sides(sides: &[Side; 3], of_edges: &[Vec<Piece>]) -> Vec<Piece> {
 /// order, without a at either end gives the triangle a,p,q."
 fn fan(boundary: &[Piece], origin: usize, outcome: &mut Outcome) {
     let numbers = boundary.iter().flat_map(|&(p, q)| [p, q]);
-    let apex = if slip() == Slip::FirstApex { boundary.first().map(|piece| piece.0) } else { numbers.min() };
+    let apex = if slip() == Slip::FirstApex {
+        boundary.first().map(|piece| piece.0)
+    } else {
+        numbers.min()
+    };
     let Some(a) = apex else { return };
     for &(p, q) in boundary.iter().filter(|&&(p, q)| p != a && q != a) {
         outcome.triangles.push([a, p, q]);

@@ -11,14 +11,20 @@ use crate::tally;
 pub fn shuts_out(seed: u64, count: u64) -> bool {
     let requests: Vec<_> = all(seed, count).collect();
     let right: Vec<String> = requests.iter().map(|(_, request)| answer(request)).collect();
-    let mut every = requests.iter().zip(&right).all(|((_, request), right)| reads_back(request, right));
+    let mut every =
+        requests.iter().zip(&right).all(|((_, request), right)| reads_back(request, right));
     for &(slip, name, what) in ALL {
         turn_on(slip);
         let differs = |(at, _): &(usize, &String)| answer(&requests[*at].1) != right[*at];
-        let different: Vec<usize> = right.iter().enumerate().filter(differs).map(|(at, _)| at).collect();
+        let different: Vec<usize> =
+            right.iter().enumerate().filter(differs).map(|(at, _)| at).collect();
         turn_on(Slip::None);
         match different.first() {
-            Some(&first) => println!("{name}: {} of {count} answers differ, first in {} ({what})", different.len(), requests[first].0.name),
+            Some(&first) => println!(
+                "{name}: {} of {count} answers differ, first in {} ({what})",
+                different.len(),
+                requests[first].0.name
+            ),
             None => println!("{name}: NO ANSWER OF {count} DIFFERS ({what})"),
         }
         every &= !different.is_empty();
@@ -36,10 +42,11 @@ fn reads_back(request: &Request, right: &str) -> bool {
     same
 }
 
-/// Prints for each family how many of so many requests have the rare events, and how many
-/// events there are.
+/// Prints for each family in how many of so many requests the rare events occur, and how
+/// often in all.
 pub fn measure(seed: u64, count: u64) {
-    println!("family: requests (events) with a count of 2 or more, more than two lower crossings, a coordinate held, a containment count beyond 0 and 1");
+    println!("{count} requests of each family with seed {seed}: requests with the event/events");
+    println!("{:14}{:>14}{:>14}{:>14}{:>14}", "family", "twice", "many lower", "held", "beyond");
     for family in &FAMILIES {
         let mut columns = [(0, 0); 4];
         for number in 0..count {
@@ -53,7 +60,7 @@ pub fn measure(seed: u64, count: u64) {
                 column.1 += events;
             }
         }
-        let columns: Vec<String> = columns.iter().map(|(requests, events)| format!("{requests} ({events})")).collect();
-        println!("{}: {}", family.name, columns.join(", "));
+        let [a, b, c, d] = columns.map(|(requests, events)| format!("{requests}/{events}"));
+        println!("{:14}{a:>14}{b:>14}{c:>14}{d:>14}", family.name);
     }
 }

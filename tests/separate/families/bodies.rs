@@ -11,7 +11,10 @@ type Corners = [u32; 3];
 const TETRAHEDRON: [Corners; 4] = [[0, 2, 1], [0, 1, 3], [0, 3, 2], [1, 2, 3]];
 
 pub fn solid_of(points: &[Point], facets: &[Corners]) -> Solid {
-    Solid { points: points.iter().flatten().copied().collect(), corners: facets.iter().flatten().copied().collect() }
+    Solid {
+        points: points.iter().flatten().copied().collect(),
+        corners: facets.iter().flatten().copied().collect(),
+    }
 }
 
 fn facets_of(solid: &Solid) -> Vec<Corners> {
@@ -27,17 +30,29 @@ pub fn tetrahedron(points: [Point; 4]) -> Solid {
 }
 
 /// The sample table's tetrahedron T.
-pub fn sample() -> Solid {
+pub fn t() -> Solid {
     tetrahedron([[0.0, 0.0, 0.0], [4.0, 0.0, 0.0], [0.0, 4.0, 0.0], [0.0, 0.0, 4.0]])
 }
 
 /// The axis-aligned box between two points.
 pub fn block(low: Point, high: Point) -> Solid {
-    let corner = |bits: usize| [0, 1, 2].map(|axis| if bits >> axis & 1 == 0 { low[axis] } else { high[axis] });
+    let corner = |bits: usize| {
+        [0, 1, 2].map(|axis| if bits >> axis & 1 == 0 { low[axis] } else { high[axis] })
+    };
     let points: Vec<Point> = (0..8).map(corner).collect();
     let facets = [
-        [0, 2, 3], [0, 3, 1], [4, 5, 7], [4, 7, 6], [0, 1, 5], [0, 5, 4],
-        [2, 6, 7], [2, 7, 3], [0, 4, 6], [0, 6, 2], [1, 3, 7], [1, 7, 5],
+        [0, 2, 3],
+        [0, 3, 1],
+        [4, 5, 7],
+        [4, 7, 6],
+        [0, 1, 5],
+        [0, 5, 4],
+        [2, 6, 7],
+        [2, 7, 3],
+        [0, 4, 6],
+        [0, 6, 2],
+        [1, 3, 7],
+        [1, 7, 5],
     ];
     solid_of(&points, &facets)
 }

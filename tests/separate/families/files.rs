@@ -1,7 +1,7 @@
 //! Requests about files: read, written, and as input of the program `solid`; and shown parts.
 
 use super::ample;
-use super::bodies::sample;
+use super::bodies::t;
 use super::pairs::{largest, pick_pair, signed_zeros};
 use super::random::Random;
 use super::refusals::{blank, put_faults, put_inner_fault, too_many_facets, too_many_vertices};
@@ -83,7 +83,7 @@ pub fn read(r: &mut Random, _: u64) -> Request {
 
 /// A small file cut at every place, one after the other, for the reader and for the program.
 pub fn cut(r: &mut Random, number: u64) -> Request {
-    let file = records(&sample());
+    let file = records(&t());
     let kept = (number / 2) as usize % (file.len() + 1);
     if number % 2 == 0 {
         return Request::Read { bytes: file[..kept].to_vec(), coordinates: 12, corners: 12 };
@@ -135,7 +135,20 @@ pub fn program(r: &mut Random, _: u64) -> Request {
 
 /// The program's letter: wrong, in lower case or missing, before right and wrong files.
 pub fn letters(r: &mut Random, _: u64) -> Request {
-    let short = [&b""[..], b"U", b"D", b"x", b"UEN", b"IENEN", b"DENEN", b"UENENE", b"\0ENEN", b"uENEN", b"EN", b"ENEN"];
+    let short = [
+        &b""[..],
+        b"U",
+        b"D",
+        b"x",
+        b"UEN",
+        b"IENEN",
+        b"DENEN",
+        b"UENENE",
+        b"\0ENEN",
+        b"uENEN",
+        b"EN",
+        b"ENEN",
+    ];
     if r.once_in(3) {
         return Request::Solid { bytes: r.pick(&short).to_vec() };
     }
@@ -162,7 +175,15 @@ pub fn byte_limit(r: &mut Random, _: u64) -> Request {
 
 /// An input whose result has just so many vertices or triangles as there is room for, or more.
 pub fn program_room(r: &mut Random, _: u64) -> Request {
-    let sizes = [(511, 1_000), (512, 1_008), (512, 1_024), (513, 1_000), (512, 1_022), (510, 1_026), (500, 1_024)];
+    let sizes = [
+        (511, 1_000),
+        (512, 1_008),
+        (512, 1_024),
+        (513, 1_000),
+        (512, 1_022),
+        (510, 1_026),
+        (500, 1_024),
+    ];
     let (vertices, triangles) = r.pick(&sizes);
     let (a, b) = sized(r, vertices, triangles);
     let letter = if r.once_in(8) { r.pick(b"ID") } else { b'U' };
@@ -173,13 +194,16 @@ pub fn program_room(r: &mut Random, _: u64) -> Request {
 pub fn shown(r: &mut Random, _: u64) -> Request {
     let mut list = |most: usize| -> Vec<u32> {
         let length = r.below(most + 1);
-        (0..length).map(|_| if r.once_in(3) { u32::MAX - r.below(3) as u32 } else { r.below(200) as u32 }).collect()
+        (0..length)
+            .map(|_| if r.once_in(3) { u32::MAX - r.below(3) as u32 } else { r.below(200) as u32 })
+            .collect()
     };
     let (a, b) = (list(17), list(17));
     let facets = (a.len() / 3 + b.len() / 3) as u32;
     let any = r.below(12) as u32;
     let ends = [0, a.len() as u32 / 3, facets.saturating_sub(1), facets, facets + 1];
-    let origin = if r.once_in(2) { any } else { r.pick(&[&ends[..], &[1 << 31, u32::MAX]].concat()) };
+    let origin =
+        if r.once_in(2) { any } else { r.pick(&[&ends[..], &[1 << 31, u32::MAX]].concat()) };
     Request::Shown { a, b, origin }
 }
 

@@ -58,7 +58,11 @@ pub fn extremes(r: &mut Random) -> f64 {
         6 => r.share() * LIMIT,
         _ => r.from_to(0, 3) as f64,
     };
-    if r.once_in(2) { -size } else { size }
+    if r.once_in(2) {
+        -size
+    } else {
+        size
+    }
 }
 
 /// Small multiples of the tiniest number: interpolation rounds as coarsely as it can.

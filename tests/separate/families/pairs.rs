@@ -1,10 +1,10 @@
 //! Pairs of solids, A and B: integers, boxes, sums, plain reals, extremes, equal, touching,
 //! flat and empty solids, results used again, and the largest sizes.
 
+use super::ample;
 use super::bodies::*;
 use super::numbers::*;
 use super::random::Random;
-use super::ample;
 use crate::admission::{Solid, LIMIT, MOST_FACETS, MOST_VERTICES};
 use crate::crossings::Point;
 use crate::result::{operation, Outcome};
@@ -29,10 +29,30 @@ fn some_blocks(r: &mut Random, kind: Kind) -> Solid {
     together(&parts)
 }
 
-/// Ones, both zeros and the tiniest numbers: signs of zero in points and in the hold.
+/// Ones, both zeros and the tiniest numbers: signs of zero in points and in the hold. Zeros
+/// have any signs, or one for each axis; on one axis A's is plus and B's is minus, since then
+/// D+ can be minus zero.
 pub fn signed_zeros(r: &mut Random) -> Pair {
-    let side = |r: &mut Random| if r.once_in(3) { some_blocks(r, zeros) } else { small_body(r, zeros) };
-    (side(r), side(r))
+    let (a, b) = (body_of_zeros(r), body_of_zeros(r));
+    if r.once_in(3) {
+        return (a, b);
+    }
+    let (mut signs_a, mut signs_b) = ([-0.0; 3], [(); 3].map(|()| r.pick(&[0.0, -0.0])));
+    let axis = r.below(3);
+    (signs_a[axis], signs_b[axis]) = (0.0, -0.0);
+    (with_zeros(&a, signs_a), with_zeros(&b, signs_b))
+}
+
+fn body_of_zeros(r: &mut Random) -> Solid {
+    if r.once_in(3) {
+        some_blocks(r, zeros)
+    } else {
+        small_body(r, zeros)
+    }
+}
+
+fn with_zeros(solid: &Solid, signs: Point) -> Solid {
+    changed(solid, |axis, number| if number == 0.0 { signs[axis] } else { number })
 }
 
 /// Sums of tetrahedra over shared vertices: counts beyond 1, below 0, and doubled facets.
@@ -52,11 +72,15 @@ pub fn sums(r: &mut Random) -> Pair {
 
 /// A tetrahedron several times over the same vertices, round another body or through it.
 fn many_times_round(r: &mut Random) -> Pair {
-    let once = moved(&sample(), 1.0, [-1.0, -1.0, -1.0]);
+    let once = moved(&t(), 1.0, [-1.0, -1.0, -1.0]);
     let round = Solid { corners: once.corners.repeat(2 + r.below(2)), ..once };
     let kind = r.pick(&[few_integers as Kind, tenths, reals]);
     let (a, b) = (mixed(r, &round), small_body(r, kind));
-    if r.once_in(2) { (a, b) } else { (b, a) }
+    if r.once_in(2) {
+        (a, b)
+    } else {
+        (b, a)
+    }
 }
 
 /// Plain reals: tetrahedra, hull-like bodies and tori that cross as a rule.
@@ -111,7 +135,11 @@ pub fn touching(r: &mut Random) -> Pair {
         points[3] = on_the_way(a.point(0), middle, 2.0);
     }
     let b = mixed(r, &surface_over_four(&points));
-    if r.once_in(2) { (a, b) } else { (b, a) }
+    if r.once_in(2) {
+        (a, b)
+    } else {
+        (b, a)
+    }
 }
 
 fn surface_over_four(points: &[Point]) -> Solid {
@@ -129,7 +157,11 @@ fn block_on_block(r: &mut Random) -> Pair {
     on_low[axis] = high[axis];
     on_high[axis] = high[axis] + kind(r);
     let (a, b) = (block(low, high), block(on_low, on_high));
-    if r.once_in(2) { (a, b) } else { (b, a) }
+    if r.once_in(2) {
+        (a, b)
+    } else {
+        (b, a)
+    }
 }
 
 /// Zero-area facets and duplicate vertices: few places for many vertices, all in a plane or
@@ -159,7 +191,14 @@ fn leaves(r: &mut Random, points: &[Point]) -> Solid {
     for _ in 0..1 + r.below(4) {
         let mut vertices: Vec<u32> = (0..points.len() as u32).collect();
         r.shuffle(&mut vertices);
-        corners.extend([vertices[0], vertices[1], vertices[2], vertices[2], vertices[1], vertices[0]]);
+        corners.extend([
+            vertices[0],
+            vertices[1],
+            vertices[2],
+            vertices[2],
+            vertices[1],
+            vertices[0],
+        ]);
     }
     Solid { corners, ..solid_of(points, &[]) }
 }
@@ -167,7 +206,13 @@ fn leaves(r: &mut Random, points: &[Point]) -> Solid {
 /// Nothing, vertices without facets, and bodies with vertices that no facet uses.
 pub fn empty(r: &mut Random) -> Pair {
     let (a, b) = (perhaps_nothing(r), perhaps_nothing(r));
-    if r.once_in(3) { (a, any_body(r)) } else if r.once_in(2) { (any_body(r), b) } else { (a, b) }
+    if r.once_in(3) {
+        (a, any_body(r))
+    } else if r.once_in(2) {
+        (any_body(r), b)
+    } else {
+        (a, b)
+    }
 }
 
 fn perhaps_nothing(r: &mut Random) -> Solid {
@@ -186,7 +231,8 @@ fn perhaps_nothing(r: &mut Random) -> Solid {
 
 /// A pair of one of the small families, for those that make something else of it.
 pub fn pick_pair(r: &mut Random) -> Pair {
-    let makers: [fn(&mut Random) -> Pair; 8] = [ties, boxes, signed_zeros, sums, plain, limit, touching, flat];
+    let makers: [fn(&mut Random) -> Pair; 8] =
+        [ties, boxes, signed_zeros, sums, plain, limit, touching, flat];
     r.pick(&makers)(r)
 }
 
@@ -202,17 +248,24 @@ pub fn within_size(solid: &Solid) -> bool {
 pub fn again(r: &mut Random) -> Pair {
     let (a, b) = if r.once_in(3) { super::tight::by_an_ulp(r) } else { pick_pair(r) };
     let code = r.below(3) as u32;
-    let made = operation(code, &a, &b, ample()).ok().map(|outcome| solid_from(&outcome)).filter(within_size);
+    let made = operation(code, &a, &b, ample())
+        .ok()
+        .map(|outcome| solid_from(&outcome))
+        .filter(within_size);
     let first = made.unwrap_or(a);
     let second = if r.once_in(2) { b } else { any_body(r) };
-    if r.once_in(2) { (first, second) } else { (second, first) }
+    if r.once_in(2) {
+        (first, second)
+    } else {
+        (second, first)
+    }
 }
 
 /// The largest sizes: 128 vertices, 256 facets; also vertices without facets, and grids.
 pub fn largest(r: &mut Random) -> Pair {
     match r.below(24) {
-        0 | 1 => (largest_body(r), largest_body(r)),
-        2..=8 => (largest_body(r), small_body(r, reals)),
+        0 => (largest_body(r), largest_body(r)),
+        1..=8 => (largest_body(r), small_body(r, reals)),
         9..=16 => (small_body(r, reals), largest_body(r)),
         17..=19 => {
             let (rows, columns) = (2 + r.below(2), 2 + r.below(2));
@@ -232,7 +285,8 @@ fn largest_body(r: &mut Random) -> Solid {
             sum_of_tetrahedra(r, &points, 64)
         }
         _ => {
-            let parts: Vec<Solid> = (0..32).map(|_| tetrahedron([(); 4].map(|()| point(r, reals)))).collect();
+            let parts: Vec<Solid> =
+                (0..32).map(|_| tetrahedron([(); 4].map(|()| point(r, reals)))).collect();
             together(&parts)
         }
     };

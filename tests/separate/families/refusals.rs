@@ -17,7 +17,11 @@ pub fn blank(r: &mut Random) -> f64 {
 /// A number beyond the limit.
 pub fn beyond_limit(r: &mut Random) -> f64 {
     let size = r.pick(&[ulps(LIMIT, 1), 2.0 * LIMIT, f64::MAX, f64::INFINITY]);
-    if r.once_in(2) { -size } else { size }
+    if r.once_in(2) {
+        -size
+    } else {
+        size
+    }
 }
 
 fn place_number(r: &mut Random, solid: &mut Solid, number: f64) {
@@ -113,8 +117,17 @@ fn blank_and_beyond(r: &mut Random, solid: &mut Solid) {
 type Fault = fn(&mut Random, &mut Solid);
 
 /// Faults that are refused by 3 to 6.
-const INNER_FAULTS: [Fault; 7] =
-    [opened, named_twice, corner_beyond, number_beyond, one_blank, all_blank, blank_and_beyond];
+const INNER_FAULTS: [Fault; 9] = [
+    opened,
+    opened,
+    named_twice,
+    corner_beyond,
+    number_beyond,
+    number_beyond,
+    one_blank,
+    all_blank,
+    blank_and_beyond,
+];
 
 /// Puts one fault into a solid that is refused by 3 to 6.
 pub fn put_inner_fault(r: &mut Random, solid: &mut Solid) {
@@ -142,9 +155,18 @@ pub fn operation(r: &mut Random, _: u64) -> Request {
     if !r.once_in(3) {
         put_faults(r, &mut b);
     }
-    let code = if r.once_in(3) { r.pick(&[3, 4, 85, 256, 257, 65_536, 1 << 31, u32::MAX]) } else { r.below(3) as u32 };
+    let code = if r.once_in(3) {
+        r.pick(&[3, 4, 85, 256, 257, 65_536, 1 << 31, u32::MAX])
+    } else {
+        r.below(3) as u32
+    };
     let least = r.pick(&[0, 9_000, 9_000, 9_000]);
-    Request::Op { code, a, b, room: Room { coordinates: least, corners: 2 * least, origins: least } }
+    Request::Op {
+        code,
+        a,
+        b,
+        room: Room { coordinates: least, corners: 2 * least, origins: least },
+    }
 }
 
 /// A point count with faults in the point and in the solid.
@@ -153,7 +175,7 @@ pub fn count(r: &mut Random, _: u64) -> Request {
     put_faults(r, &mut solid);
     let mut point = other.point(r.below(other.vertices()));
     for fault in [beyond_limit, blank] {
-        if r.once_in(3) {
+        if r.once_in(2) {
             point[r.below(3)] = fault(r);
         }
     }

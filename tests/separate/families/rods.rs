@@ -33,11 +33,13 @@ fn crossing_needles(r: &mut Random, rows: usize, columns: usize, times: usize) -
 
 /// A long thin tetrahedron along an axis, so many times over the same vertices.
 fn needle(r: &mut Random, axis: usize, at: usize, times: usize) -> Solid {
-    let points = [(-60.0, -0.2, 0.0), (-60.0, 0.2, 0.0), (70.0, 0.0, -0.2), (70.0, 0.0, 0.2)].map(|(far, aside, up)| {
-        let mut point = [far, far, up + 0.02 * reals(r)];
-        point[1 - axis] = at as f64 + aside + 0.02 * reals(r);
-        point
-    });
+    let points = [(-60.0, -0.2, 0.0), (-60.0, 0.2, 0.0), (70.0, 0.0, -0.2), (70.0, 0.0, 0.2)].map(
+        |(far, aside, up)| {
+            let mut point = [far, far, up + 0.02 * reals(r)];
+            point[1 - axis] = at as f64 + aside + 0.02 * reals(r);
+            point
+        },
+    );
     let once = tetrahedron(points);
     Solid { corners: once.corners.repeat(times), ..once }
 }
@@ -49,13 +51,17 @@ pub fn sized(r: &mut Random, vertices: usize, triangles: usize) -> Pair {
         let (rows, columns) = r.pick(&[(3, 9), (4, 7), (4, 8), (3, 10)]);
         let (a, b) = crossing_needles(r, rows, columns, 1);
         let Ok(outcome) = operation(0, &a, &b, ample()) else { continue };
-        let (Some(unused), Some(leaves)) =
-            (vertices.checked_sub(outcome.vertices.len()), triangles.checked_sub(outcome.triangles.len()))
-        else {
+        let (Some(unused), Some(leaves)) = (
+            vertices.checked_sub(outcome.vertices.len()),
+            triangles.checked_sub(outcome.triangles.len()),
+        ) else {
             continue;
         };
         let in_a = unused.min(MOST_VERTICES - a.vertices());
-        if in_a >= 3 && unused - in_a <= MOST_VERTICES - b.vertices() && leaves <= MOST_FACETS - a.facets() {
+        if in_a >= 3
+            && unused - in_a <= MOST_VERTICES - b.vertices()
+            && leaves <= MOST_FACETS - a.facets()
+        {
             return (enlarged(&a, in_a, leaves / 2), enlarged(&b, unused - in_a, 0));
         }
     }

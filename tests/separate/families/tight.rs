@@ -22,7 +22,11 @@ pub fn by_an_ulp(r: &mut Random) -> Pair {
         _ => number,
     });
     let b = if r.once_in(3) { mixed(r, &b) } else { b };
-    if r.once_in(2) { (a, b) } else { (b, a) }
+    if r.once_in(2) {
+        (a, b)
+    } else {
+        (b, a)
+    }
 }
 
 /// Vertices of one solid on the other's edges and facets, within an ulp: the interpolated
@@ -31,17 +35,23 @@ pub fn incident(r: &mut Random) -> Pair {
     let kind = r.pick(&[reals as Kind, reals, tenths, thirds, extremes]);
     let a = small_body(r, kind);
     let number = r.pick(&[4, 4, 5, 6]);
-    let points: Vec<Point> = (0..number).map(|_| if r.once_in(4) { point(r, kind) } else { beside_facet(r, &a) }).collect();
+    let points: Vec<Point> = (0..number)
+        .map(|_| if r.once_in(4) { point(r, kind) } else { beside_facet(r, &a) })
+        .collect();
     let b = surface_over(r, &points);
     let b = mixed(r, &b);
-    if r.once_in(2) { (a, b) } else { (b, a) }
+    if r.once_in(2) {
+        (a, b)
+    } else {
+        (b, a)
+    }
 }
 
 /// A point on an edge or a facet of the body, or an ulp beside.
 fn beside_facet(r: &mut Random, body: &Solid) -> Point {
     let [p, q, s] = body.facet(r.below(body.facets())).map(|corner| body.point(corner));
     let any = r.share();
-    let share = r.pick(&[0.5, 1.0 / 3.0, any, any, ulps(1.0, -1), 1e-9]);
+    let share = r.pick(&[0.5, any, any, 0.0, 1e-16, 1e-9, ulps(1.0, -1), ulps(1.0, -1)]);
     let on_edge = on_the_way(p, q, share);
     let on = if r.once_in(2) { on_edge } else { on_the_way(on_edge, s, r.share()) };
     on.map(|number| if r.once_in(2) { beside(r, number, 1) } else { number })
@@ -129,6 +139,7 @@ fn seen_from_above(r: &mut Random, shares: [f64; 5]) -> Sliver {
 /// How many lower pairings of a sliver's edge and facet cross. Heights have no part in it.
 fn lower_crossings(sliver: Sliver) -> usize {
     let (edge, facet) = (edge_of(sliver), facet_of(sliver));
-    let of_a = [edge.start, edge.end].iter().filter(|&&end| vertex_facet(end, &facet).count() != 0).count();
-    of_a + facet.iter().filter(|half_edge| edge_edge(&edge, &half_edge.edge).count() != 0).count()
+    let in_facet = |end: &&Point| vertex_facet(**end, &facet).count() != 0;
+    let crossed = |half_edge: &&HalfEdge| edge_edge(&edge, &half_edge.edge).count() != 0;
+    [edge.start, edge.end].iter().filter(in_facet).count() + facet.iter().filter(crossed).count()
 }
