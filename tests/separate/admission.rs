@@ -104,9 +104,15 @@ fn check_closed(solid: &Solid) -> Answer<()> {
     refuse_if(surplus.iter().any(|&number| number != 0), 6)
 }
 
+/// "The solid with no vertices is admitted; it means nothing, and a blank does not."
+fn taken_for_empty(solid: &Solid) -> bool {
+    let blanks = || solid.points.iter().all(|number| number.is_nan());
+    slip() == Slip::BlankIsEmpty && !solid.points.is_empty() && blanks()
+}
+
 /// The checks on one solid, in their order.
 pub fn check(solid: &Solid) -> Answer<()> {
-    if slip() == Slip::BlankIsEmpty && solid.points.iter().all(|number| number.is_nan()) {
+    if taken_for_empty(solid) {
         return Ok(());
     }
     check_lengths(solid)?;
@@ -138,7 +144,7 @@ pub struct Body {
 /// The admitted solid, or its refusal.
 pub fn admitted(solid: &Solid) -> Answer<Body> {
     check(solid)?;
-    if slip() == Slip::BlankIsEmpty && solid.points.iter().all(|number| number.is_nan()) {
+    if taken_for_empty(solid) {
         return Ok(Body::default());
     }
     let points: Vec<Point> = (0..solid.vertices()).map(|vertex| solid.point(vertex)).collect();

@@ -41,11 +41,11 @@ pub const FAMILIES: [Family; 28] = [
     Family { name: "again", make: |r, _| asked(r, pairs::again) },
     Family { name: "largest", make: largest },
     Family { name: "contains", make: contains },
-    Family { name: "rooms", make: files::rooms },
+    Family { name: "rooms", make: refusals::rooms },
     Family { name: "refused-op", make: refusals::operation },
     Family { name: "refused-count", make: refusals::count },
     Family { name: "refused-admit", make: refusals::admit },
-    Family { name: "shown", make: files::shown },
+    Family { name: "shown", make: shown },
     Family { name: "files", make: files::read },
     Family { name: "cut", make: files::cut },
     Family { name: "written", make: files::written },
@@ -60,6 +60,7 @@ pub fn ample() -> Room {
     Room { coordinates: 12_288, corners: 49_152, origins: 16_384 }
 }
 
+/// The operation on a pair of a family; once in ten times a point count in its first solid.
 fn asked(r: &mut Random, pair: fn(&mut Random) -> Pair) -> Request {
     let (a, b) = pair(r);
     if r.once_in(10) {
@@ -104,6 +105,23 @@ fn count_in(r: &mut Random, solid: Solid, other: &Solid) -> Request {
         _ => p.map(|number| beside(r, number, 1)),
     };
     Request::Count { as_a: r.once_in(2), point: place, solid }
+}
+
+/// Any corner lists with any origins.
+fn shown(r: &mut Random, _: u64) -> Request {
+    let mut list = |most: usize| -> Vec<u32> {
+        let length = r.below(most + 1);
+        (0..length)
+            .map(|_| if r.once_in(3) { u32::MAX - r.below(3) as u32 } else { r.below(200) as u32 })
+            .collect()
+    };
+    let (a, b) = (list(17), list(17));
+    let facets = (a.len() / 3 + b.len() / 3) as u32;
+    let any = r.below(12) as u32;
+    let ends = [0, a.len() as u32 / 3, facets.saturating_sub(1), facets, facets + 1];
+    let origin =
+        if r.once_in(2) { any } else { r.pick(&[&ends[..], &[1 << 31, u32::MAX]].concat()) };
+    Request::Shown { a, b, origin }
 }
 
 impl Family {

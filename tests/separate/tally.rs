@@ -16,7 +16,7 @@ pub struct Tally {
 }
 
 thread_local! {
-    static TALLY: Cell<Tally> = const { Cell::new(Tally { held: 0, twice: 0, many_lower: 0, beyond: 0 }) };
+    static TALLY: Cell<Tally> = Cell::new(Tally::default());
 }
 
 fn change(by: impl Fn(&mut Tally)) {

@@ -1,6 +1,5 @@
-//! Requests about files: read, written, and as input of the program `solid`; and shown parts.
+//! Requests about house files: read, written, and as input of the program `solid`.
 
-use super::ample;
 use super::bodies::t;
 use super::pairs::{largest, pick_pair, signed_zeros};
 use super::random::Random;
@@ -9,7 +8,6 @@ use super::rods::sized;
 use crate::admission::Solid;
 use crate::house::records;
 use crate::language::Request;
-use crate::result::operation;
 
 /// A solid whose lists are whole threes, as a file holds them; with faults once in two times.
 fn solid_for_file(r: &mut Random) -> Solid {
@@ -42,7 +40,9 @@ fn damage(r: &mut Random, file: &mut [u8], vertices: usize) {
 /// A file with its records in another order: a vertex after a facet.
 fn vertex_behind(r: &mut Random, solid: &Solid) -> Vec<u8> {
     let file = records(solid);
-    let Some(vertex) = file.get(..26).filter(|_| solid.facets() > 0) else { return file };
+    let Some(vertex) = file.get(..26).filter(|_| solid.vertices() > 0 && solid.facets() > 0) else {
+        return file;
+    };
     let at = 26 * solid.vertices() + 14 * (1 + r.below(solid.facets()));
     [&file[26..at], vertex, &file[at..]].concat()
 }
@@ -188,43 +188,4 @@ pub fn program_room(r: &mut Random, _: u64) -> Request {
     let (a, b) = sized(r, vertices, triangles);
     let letter = if r.once_in(8) { r.pick(b"ID") } else { b'U' };
     input_of(letter, &records(&a), &records(&b), b"")
-}
-
-/// Any corner lists with any origins.
-pub fn shown(r: &mut Random, _: u64) -> Request {
-    let mut list = |most: usize| -> Vec<u32> {
-        let length = r.below(most + 1);
-        (0..length)
-            .map(|_| if r.once_in(3) { u32::MAX - r.below(3) as u32 } else { r.below(200) as u32 })
-            .collect()
-    };
-    let (a, b) = (list(17), list(17));
-    let facets = (a.len() / 3 + b.len() / 3) as u32;
-    let any = r.below(12) as u32;
-    let ends = [0, a.len() as u32 / 3, facets.saturating_sub(1), facets, facets + 1];
-    let origin =
-        if r.once_in(2) { any } else { r.pick(&[&ends[..], &[1 << 31, u32::MAX]].concat()) };
-    Request::Shown { a, b, origin }
-}
-
-/// Rooms that just suffice and rooms one short, for operations.
-pub fn rooms(r: &mut Random, _: u64) -> Request {
-    let (a, b) = pick_pair(r);
-    let code = r.below(3) as u32;
-    let mut room = ample();
-    if let Ok(outcome) = operation(code, &a, &b, room) {
-        let (vertices, triangles) = (outcome.vertices.len(), outcome.triangles.len());
-        room.coordinates = 3 * vertices;
-        room.corners = 3 * triangles;
-        room.origins = triangles;
-    }
-    match r.below(8) {
-        0 => room.coordinates = room.coordinates.saturating_sub(1),
-        1 => room.corners = room.corners.saturating_sub(1),
-        2 | 3 => room.origins = room.origins.saturating_sub(1),
-        4 => room.coordinates += 2,
-        5 => room.corners = u32::MAX as usize,
-        _ => {}
-    }
-    Request::Op { code, a, b, room }
 }

@@ -1,11 +1,12 @@
-//! Requests with faults: every refusal, and several at once.
+//! Requests with faults: every refusal, several at once, and rooms that just suffice.
 
+use super::ample;
 use super::numbers::{extremes, point, ulps, TINIEST};
 use super::pairs::pick_pair;
 use super::random::Random;
 use crate::admission::{Solid, LIMIT, MOST_FACETS, MOST_VERTICES};
 use crate::language::Request;
-use crate::result::Room;
+use crate::result::{operation as made, Room};
 
 /// A NaN of any sign and payload.
 pub fn blank(r: &mut Random) -> f64 {
@@ -61,7 +62,7 @@ fn corner_beyond(r: &mut Random, solid: &mut Solid) {
 
 /// A facet that names a vertex twice, or three times: its half-edges may balance all the same.
 fn named_twice(r: &mut Random, solid: &mut Solid) {
-    if solid.points.is_empty() {
+    if solid.vertices() == 0 {
         solid.points.extend([TINIEST; 3]);
     }
     let vertices = solid.vertices();
@@ -78,7 +79,7 @@ fn opened(r: &mut Random, solid: &mut Solid) {
     match r.below(3) {
         0 => drop(solid.corners.drain(at..at + 3)),
         1 => solid.corners.swap(at, at + 1),
-        _ => solid.corners[at] = (solid.corners[at] + 1) % solid.vertices().max(1) as u32,
+        _ => solid.corners[at] = solid.corners[at].wrapping_add(1) % solid.vertices().max(1) as u32,
     }
 }
 
@@ -117,9 +118,10 @@ fn blank_and_beyond(r: &mut Random, solid: &mut Solid) {
 type Fault = fn(&mut Random, &mut Solid);
 
 /// Faults that are refused by 3 to 6.
-const INNER_FAULTS: [Fault; 9] = [
+const INNER_FAULTS: [Fault; 10] = [
     opened,
     opened,
+    named_twice,
     named_twice,
     corner_beyond,
     number_beyond,
@@ -187,4 +189,26 @@ pub fn admit(r: &mut Random, _: u64) -> Request {
     let (mut solid, _) = pick_pair(r);
     put_faults(r, &mut solid);
     Request::Admit { solid }
+}
+
+/// Rooms that just suffice and rooms one short, for operations.
+pub fn rooms(r: &mut Random, _: u64) -> Request {
+    let (a, b) = pick_pair(r);
+    let code = r.below(3) as u32;
+    let mut room = ample();
+    if let Ok(outcome) = made(code, &a, &b, room) {
+        let (vertices, triangles) = (outcome.vertices.len(), outcome.triangles.len());
+        room.coordinates = 3 * vertices;
+        room.corners = 3 * triangles;
+        room.origins = triangles;
+    }
+    match r.below(8) {
+        0 => room.coordinates = room.coordinates.saturating_sub(1),
+        1 => room.corners = room.corners.saturating_sub(1),
+        2 | 3 => room.origins = room.origins.saturating_sub(1),
+        4 => room.coordinates += 2,
+        5 => room.corners = u32::MAX as usize,
+        _ => {}
+    }
+    Request::Op { code, a, b, room }
 }
