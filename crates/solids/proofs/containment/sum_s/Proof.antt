@@ -69,10 +69,11 @@ loop-again c =
     let r = c .facet-s .result in
     let h : toZ w32 (ofZ w32 r) ≡ r = search needs in
     let z = toZ-ofZ (add-sum c) in
-    let e : r ≡ part (a .as-b) (a .v) (a .points .now) (a .corners .now) (l .loop .f) = c .facet-s .ensures .0 ∙ ap (facet-S (a .as-b) (a .v)) (c .before .facet .ensures) in
-    (omega arith,
-    z ∙ rw (h, add-one) (ap₂ _+ℤ_ (l .loop .inv .1) e ∙ sym (sum-upTo-suc (part (a .as-b) (a .v) (a .points .now) (a .corners .now)) (l .loop .f))),
-    rw (z, h) (bnd-add (l .loop .f) 1 (toZ w32 (l .loop .sum)) r (l .loop .inv .2) (c .facet-s .ensures .1)))
+    let e : r ≡ part (a .as-b) (a .v) (a .points .now) (a .corners .now) (l .loop .f) = c .facet-s .ensures .0 ∙ ap (facet-S (a .as-b) (a .v)) (c .before .facet .ensures) in (
+      omega arith,
+      z ∙ rw (h, add-one) (ap₂ _+ℤ_ (l .loop .inv .1) e ∙ sym (sum-upTo-suc (part (a .as-b) (a .v) (a .points .now) (a .corners .now)) (l .loop .f))),
+      rw (z, h) (bnd-add (l .loop .f) 1 (toZ w32 (l .loop .sum)) r (l .loop .inv .2) (c .facet-s .ensures .1)),
+    )
 
 -- src/containment.rt:67:1
 returns : tie.Need-returns Inv-loop μ-loop
