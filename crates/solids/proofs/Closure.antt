@@ -12,7 +12,7 @@ use Rattle.sums.proofs.Closed.{closed-of-all}
 use Rattle.sums.proofs.UpTo.{mem-upTo}
 use Rattle.solids.specs.Solids.{Solid, vertices, facets, half-edges, pairs}
 use Rattle.solids.specs.Admission.{faulty, differ}
-use Rattle.solids.specs.Table.{Low}
+use Rattle.solids.specs.Table.{Low, Named}
 use Rattle.solids.proofs.Pairs.{mem-pairs}
 use Rattle.solids.proofs.Admitted.{All-proper, Between, sides, all-half-edges, fine, Matched, matched, shut-back}
 
@@ -20,14 +20,18 @@ module _ (s : Solid) where
   pub all-fine : any (faulty s) (upTo (facets s)) ≡ false → All-proper s
   all-fine e f i = fine s f (all-at (λ f. faulty s f ≡ false) (mem-upTo (facets s) f i) (any-false (faulty s) (upTo (facets s)) e))
 
-  pub low : length (s .corners) % 3 ≡ 0 → vertices s ≤ 128 → All-proper s → Low (s .corners)
-  low whole few proper i h = go (i / 3) (i % 3) (omega arith) (omega arith)
+  -- every corner number names a vertex
+  pub named : length (s .corners) % 3 ≡ 0 → All-proper s → Named (s .points) (s .corners)
+  named whole proper i h = go (i / 3) (i % 3) (omega arith) (omega arith)
     where
-      go : (f k : ℕ) → i ≡ 3 * f + k → k < 3 → getD (s .corners) i 0 < 128
-      go f zero e d = let b = proper f (omega arith) .below-p in rw e (omega arith)
-      go f (suc zero) e d = let b = proper f (omega arith) .below-q in rw e (omega arith)
-      go f (suc (suc zero)) e d = let b = proper f (omega arith) .below-r in rw e (omega arith)
+      go : (f k : ℕ) → i ≡ 3 * f + k → k < 3 → getD (s .corners) i 0 < vertices s
+      go f zero e d = rw e (proper f (omega arith) .below-p)
+      go f (suc zero) e d = rw e (proper f (omega arith) .below-q)
+      go f (suc (suc zero)) e d = rw e (proper f (omega arith) .below-r)
       go f (suc (suc (suc k))) e d = absurd (omega arith)
+
+  pub low : length (s .corners) % 3 ≡ 0 → vertices s ≤ 128 → All-proper s → Low (s .corners)
+  low whole few proper i h = let b = named whole proper i h in omega arith
 
   pub closure-there : All-proper s → any (differ (half-edges s)) (pairs (vertices s)) ≡ any (differ (half-edges s)) (half-edges s)
   closure-there proper = go (any (differ (half-edges s)) (half-edges s)) refl

@@ -8,3 +8,4 @@ pub mod Limit
 pub mod Blank
 pub mod Tally
 pub mod Closure
+pub mod Answers

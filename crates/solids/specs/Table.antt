@@ -11,8 +11,10 @@ use Rattle.points.specs.declared.Point.{Point}
 use Rattle.points.specs.declared.Axis.the-variants.{Z}
 use Rattle.crossings.specs.declared.Facet.{Facet}
 use Rattle.crossings.specs.Crossings.{S, vf, fv}
-use Rattle.solids.specs.Solids.{Half, solid, number-of, facet-half-edges}
+use Rattle.solids.specs.Solids.{Solid, Half, solid, number-of, facet-half-edges}
+use Rattle.solids.specs.declared.Counted.{Counted}
 use Rattle.solids.specs.Admission.{beyond}
+use Rattle.solids.specs.Containment.{in-A, in-B, count-as-A, count-as-B}
 
 -- one loop serves checks 3 and 4
 abbrev pub bad : Bool → Float → Bool
@@ -43,3 +45,11 @@ Named points corners = (i : ℕ) → i < length corners → getD corners i 0 < l
 unfoldable pub facet-S : Bool → Point → Facet → ℤ
 facet-S true v f = S Z (vf v f)
 facet-S false v f = S Z (fv f v)
+
+unfoldable pub contained : Bool → Point → Solid → ℤ
+contained true v s = in-B v s
+contained false v s = in-A s v
+
+unfoldable pub count-as : Bool → Point → Solid → Counted
+count-as true v s = count-as-B v s
+count-as false v s = count-as-A v s

@@ -1,5 +1,6 @@
 // The checks 1 to 6 on one solid, in document 01's order.
 use crate::table;
+use points::Point;
 ghost use mathlib.Core.Path.{_≡_};
 ghost use mathlib.Core.List.{[]};
 ghost use Prim.Native.Nat.{_+_, _*_, _/_, _%_, _<_, _≤_};
@@ -136,4 +137,15 @@ pub fn admit(points: &[f64], corners: &[u32]) -> u32
         return 5;
     }
     if unmatched(corners) { 6 } else { 0 }
+}
+
+// The answer of a point's admission, by 3 and 4.
+pub fn admit_point(v: Point) -> u32
+    ensures { λ r. ⌜ r ≡ Re.answer (Ad.point-admission v) ⌝ }
+{
+    let list = [v.x, v.y, v.z];
+    if some_bad(true, &list) {
+        return 3;
+    }
+    if some_bad(false, &list) { 4 } else { 0 }
 }

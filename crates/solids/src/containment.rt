@@ -78,3 +78,49 @@ fn sum_s(as_b: bool, v: Point, points: &[f64], corners: &[u32]) -> i32
     }
     sum
 }
+
+// The point's answer, then the solid's.
+fn refusal(v: Point, points: &[f64], corners: &[u32]) -> u32
+    ensures { λ r. ⌜ r ≡ Re.answer (Re.in-order (Ad.point-admission v ∷ Ad.admission (So.solid (now (points .entry)) (now (corners .entry))) ∷ [])) ⌝ }
+{
+    let of_point = admission::admit_point(v);
+    if of_point != 0 {
+        return of_point;
+    }
+    admission::admit(points, corners)
+}
+
+// "X(vA,B)" or "X(A,vB)".
+fn contained(as_b: bool, v: Point, points: &[f64], corners: &[u32]) -> i32
+    requires { ⌜ Ta.Named (now points) (now corners) × (length (now corners) ≤ 768) ⌝ }
+    ensures { λ r. ⌜ r ≡ Ta.contained «as_b» v (So.solid (now (points .entry)) (now (corners .entry))) ⌝ }
+    ensures small { λ r. ⌜ natAbs r ≤ 256 ⌝ }
+{
+    let sum = sum_s(as_b, v, points, corners);
+    if as_b { sum } else { 0 - sum }
+}
+
+fn count_as(as_b: bool, v: Point, points: &[f64], corners: &[u32]) -> Counted
+    ensures { λ r. ⌜ r ≡ Ta.count-as «as_b» v (So.solid (now (points .entry)) (now (corners .entry))) ⌝ }
+{
+    let answer = refusal(v, points, corners);
+    if answer != 0 {
+        return Counted { answer, count: 0 };
+    }
+    Counted {
+        answer: 0,
+        count: contained(as_b, v, points, corners),
+    }
+}
+
+pub fn count_as_a(v: Point, points: &[f64], corners: &[u32]) -> Counted
+    ensures { λ r. ⌜ r ≡ Co.count-as-A v (So.solid (now (points .entry)) (now (corners .entry))) ⌝ }
+{
+    count_as(false, v, points, corners)
+}
+
+pub fn count_as_b(v: Point, points: &[f64], corners: &[u32]) -> Counted
+    ensures { λ r. ⌜ r ≡ Co.count-as-B v (So.solid (now (points .entry)) (now (corners .entry))) ⌝ }
+{
+    count_as(true, v, points, corners)
+}

@@ -3,27 +3,19 @@ use native.Mathlib.Omega.{arith}
 use borrow.Author.Needs.{needs}
 use Rattle.solids.proofs.containment.corner.Statement.{statement}
 use Rattle.solids.proofs.containment.corner.Tie as tie
-use Rattle.solids.proofs.containment.corner.Reads as reads
-use Rattle.solids.proofs.containment.corner.Lts as lts
-use Rattle.solids.proofs.containment.vertex.Reads as vertex-reads
 
--- src/containment.rt:34:18
 mul-number : tie.Need-mul-number
 mul-number c = search needs
 
--- src/containment.rt:34:18
 shared-slice-read-number : tie.Need-shared-slice-read-number
 shared-slice-read-number c = search needs
 
--- src/containment.rt:34:18
 cast-number : tie.Need-cast-number
 cast-number c = let s = c .before .before .before in omega (arith, s .pre .1 (s .args .i) (s .pre .0))
 
--- src/containment.rt:35:5
 vertex-requires : tie.Need-vertex-requires
 vertex-requires c κs = let s = c .before .before .before in s .pre .1 (s .args .i) (s .pre .0)
 
--- src/containment.rt:30:1
 returns : tie.Need-returns
 returns c = search needs
 

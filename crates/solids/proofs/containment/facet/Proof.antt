@@ -4,87 +4,64 @@ use native.Mathlib.Nat.{add-zero}
 use borrow.Author.Needs.{needs}
 use Rattle.solids.proofs.containment.facet.Statement.{statement}
 use Rattle.solids.proofs.containment.facet.Tie as tie
-use Rattle.solids.proofs.containment.facet.Reads as reads
-use Rattle.solids.proofs.containment.facet.Lts as lts
-use Rattle.solids.proofs.containment.corner.Reads as corner-reads
 
--- src/containment.rt:42:21
 mul-p : tie.Need-mul-p
 mul-p c = search needs
 
--- src/containment.rt:42:13
 mul-p-2 : tie.Need-mul-p-2
 mul-p-2 c = search needs
 
--- src/containment.rt:42:13
 shared-slice-read-p : tie.Need-shared-slice-read-p
 shared-slice-read-p c = search needs
 
--- src/containment.rt:43:21
 mul-q : tie.Need-mul-q
 mul-q c = search needs
 
--- src/containment.rt:43:21
 add-q : tie.Need-add-q
 add-q c = search needs
 
--- src/containment.rt:43:13
 mul-q-2 : tie.Need-mul-q-2
 mul-q-2 c = search needs
 
--- src/containment.rt:43:13
 shared-slice-read-q : tie.Need-shared-slice-read-q
 shared-slice-read-q c = search needs
 
--- src/containment.rt:44:21
 mul-r : tie.Need-mul-r
 mul-r c = search needs
 
--- src/containment.rt:44:21
 add-r : tie.Need-add-r
 add-r c = search needs
 
--- src/containment.rt:44:13
 mul-r-2 : tie.Need-mul-r-2
 mul-r-2 c = search needs
 
--- src/containment.rt:44:13
 shared-slice-read-r : tie.Need-shared-slice-read-r
 shared-slice-read-r c = search needs
 
--- src/containment.rt:46:36
 mul-corner : tie.Need-mul-corner
 mul-corner c = search needs
 
--- src/containment.rt:46:12
 corner-requires : tie.Need-corner-requires
 corner-requires c κs = search needs
 
--- src/containment.rt:47:36
 mul-corner-2 : tie.Need-mul-corner-2
 mul-corner-2 c = search needs
 
--- src/containment.rt:47:36
 add-corner : tie.Need-add-corner
 add-corner c = search needs
 
--- src/containment.rt:47:12
 corner-requires-2 : tie.Need-corner-requires-2
 corner-requires-2 c κs = search needs
 
--- src/containment.rt:48:36
 mul-corner-3 : tie.Need-mul-corner-3
 mul-corner-3 c = search needs
 
--- src/containment.rt:48:36
 add-corner-2 : tie.Need-add-corner-2
 add-corner-2 c = search needs
 
--- src/containment.rt:48:12
 corner-requires-3 : tie.Need-corner-requires-3
 corner-requires-3 c κs = search needs
 
--- src/containment.rt:38:1
 returns : tie.Need-returns
 returns c = rw (add-zero (3 * c .before .before .before .before .before .before .before .before .args .f), c .before .before .corner .ensures, c .before .corner2 .ensures, c .corner3 .ensures)
 

@@ -22,10 +22,6 @@ use Rattle.solids.specs.Table.{facet-S}
 use borrow.Author.Needs.{needs}
 use Rattle.solids.proofs.containment.sum_s.Statement.{statement}
 use Rattle.solids.proofs.containment.sum_s.Tie as tie
-use Rattle.solids.proofs.containment.sum_s.Reads as reads
-use Rattle.solids.proofs.containment.sum_s.Lts as lts
-use Rattle.solids.proofs.containment.facet.Reads as facet-reads
-use Rattle.solids.proofs.containment.facet_s.Reads as facet-s-reads
 
 abbrev part : Bool → Point → List Float → List ℕ → ℕ → ℤ
 part as-b v points corners f = facet-S as-b v (facet (solid points corners) f)
@@ -36,32 +32,25 @@ Inv-loop as-b v points corners sum₀ f₀ sum f = (f ≤ length corners / 3) ×
 abbrev μ-loop : tie.MeasureT-loop
 μ-loop as-b v points corners sum₀ f₀ sum f = length corners / 3 - f
 
--- src/containment.rt:74:5
 loop-holds : tie.Need-loop-holds Inv-loop μ-loop
 unfolding sumOf upTo
 loop-holds c = (omega arith, refl, omega arith)
 
--- src/containment.rt:75:13
 facet-requires : tie.Need-facet-requires Inv-loop μ-loop
 facet-requires c κs = search needs
 
--- src/containment.rt:76:21
 facet-s-requires : tie.Need-facet-s-requires Inv-loop μ-loop
 facet-s-requires c κs = search needs
 
--- src/containment.rt:76:15
 add-sum : tie.Need-add-sum Inv-loop μ-loop
 add-sum c = let r = c .facet-s .result in let h : toZ w32 (ofZ w32 r) ≡ r = search needs in rw h (fits-sum (toZ w32 (c .before .before .before .loop .sum)) r (omega arith))
 
--- src/containment.rt:77:9
 add-f : tie.Need-add-f Inv-loop μ-loop
 add-f c = search needs
 
--- src/containment.rt:74:5
 loop-less : tie.Need-loop-less Inv-loop μ-loop
 loop-less c = search needs
 
--- src/containment.rt:74:5
 loop-again : tie.Need-loop-again Inv-loop μ-loop
 loop-again c =
     let l = c .before .before .before in
@@ -75,7 +64,6 @@ loop-again c =
       rw (z, h) (bnd-add (l .loop .f) 1 (toZ w32 (l .loop .sum)) r (l .loop .inv .2) (c .facet-s .ensures .1)),
     )
 
--- src/containment.rt:67:1
 returns : tie.Need-returns Inv-loop μ-loop
 returns c =
     let l = c .before in

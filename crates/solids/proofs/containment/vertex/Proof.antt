@@ -8,54 +8,40 @@ use Rattle.points.specs.Points.{zero-number}
 use borrow.Author.Needs.{needs}
 use Rattle.solids.proofs.containment.vertex.Statement.{statement}
 use Rattle.solids.proofs.containment.vertex.Tie as tie
-use Rattle.solids.proofs.containment.vertex.Reads as reads
-use Rattle.solids.proofs.containment.vertex.Lts as lts
 
--- src/containment.rt:24:19
 mul-t3 : tie.Need-mul-t3
 mul-t3 c = search needs
 
--- src/containment.rt:24:12
 mul-t4 : tie.Need-mul-t4
 mul-t4 c = search needs
 
--- src/containment.rt:24:12
 shared-slice-read-t6 : tie.Need-shared-slice-read-t6
 shared-slice-read-t6 c = search needs
 
--- src/containment.rt:25:19
 mul-t7 : tie.Need-mul-t7
 mul-t7 c = search needs
 
--- src/containment.rt:25:19
 add-t8 : tie.Need-add-t8
 add-t8 c = search needs
 
--- src/containment.rt:25:12
 mul-t9 : tie.Need-mul-t9
 mul-t9 c = search needs
 
--- src/containment.rt:25:12
 shared-slice-read-t11 : tie.Need-shared-slice-read-t11
 shared-slice-read-t11 c = search needs
 
--- src/containment.rt:26:19
 mul-t12 : tie.Need-mul-t12
 mul-t12 c = search needs
 
--- src/containment.rt:26:19
 add-t13 : tie.Need-add-t13
 add-t13 c = search needs
 
--- src/containment.rt:26:12
 mul-t14 : tie.Need-mul-t14
 mul-t14 c = search needs
 
--- src/containment.rt:26:12
 shared-slice-read-t16 : tie.Need-shared-slice-read-t16
 shared-slice-read-t16 c = search needs
 
--- src/containment.rt:19:1
 returns : tie.Need-returns
 returns c = let s = c .before .before .before in let xs = s .args .points .now in let i = s .args .i in rw add-zero (λ j. record { x = getD-within xs (3 * i) nan zero-number (omega arith) j; y = getD-within xs (3 * i + 1) nan zero-number (omega arith) j; z = getD-within xs (3 * i + 2) nan zero-number (omega arith) j })
 
