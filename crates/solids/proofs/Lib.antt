@@ -9,3 +9,4 @@ pub mod Blank
 pub mod Tally
 pub mod Closure
 pub mod Answers
+pub mod Edges

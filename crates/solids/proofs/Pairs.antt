@@ -15,7 +15,7 @@ use Rattle.sums.proofs.UpTo.{Distinct, distinct-map, distinct-blocks, apart-map
 use Rattle.sums.proofs.Closed.{same-half-self}
 use Rattle.solids.specs.Solids.{Half, same-half, number-of, pairs, along, edge-of}
 
-abbrev row : ℕ → ℕ → List Half
+abbrev pub row : ℕ → ℕ → List Half
 row n p = map (λ q. (p, q)) (upTo n)
 
 pub mem-pairs : (n : ℕ) (h : Half) → h .0 < n → h .1 < n → List·Memᴰ h (pairs n)

@@ -22,7 +22,7 @@ pub tallied-none : Tallied (replicate 16384 0) []
 unfolding times
 tallied-none = record { size = length-replicate {A = ℕ} 16384 0; at = λ h a b. getD-replicate {A = ℕ} 16384 (place h) 0 0 (omega arith) }
 
-place-apart : (h k : Half) → h .1 < 128 → k .1 < 128 → same-half k h ≡ false → place k ≢ place h
+pub place-apart : (h k : Half) → h .1 < 128 → k .1 < 128 → same-half k h ≡ false → place k ≢ place h
 place-apart h k a b e q = never (same-half k h) (of-T (same-half k h) (rw (both) (same-half-self eqb eqb→eq eqb-refl h))) e
   where
     both : k ≡ h
