@@ -2,10 +2,10 @@
 use mathlib.Core.Path.{_≡_, refl, sym, ap, ap₂, _∙_, subst}
 use mathlib.Core.List.{List, [], _∷_, _++_, map, flatMap, append-assoc, List·Memᴰ, List·Memᴰ·head, List·Memᴰ·tail, Memᴰ·append-left, Memᴰ·append-right}
 use mathlib.Core.Bool.{Bool, true, false, cond}
-use Prim.Native.Nat.{ℕ, _*_}
+use Prim.Native.Nat.{ℕ, zero, suc, _*_}
 use native.Mathlib.Nat.{zero-mul}
 use native.Mathlib.Omega.{arith}
-use lib.ListN.{length}
+use lib.ListN.{length, take, drop}
 use lib.IntN.{ℤ, pos, _+ℤ_, _-ℤ_, _*ℤ_, negℤ, negℤ-+ℤ, +ℤ-idl, +ℤ-idr, +ℤ-assoc, *ℤ-zero}
 use Rattle.sums.specs.Lists.{sumOf, keep}
 use Rattle.sums.proofs.Integers.{regroup, mul-add, Bnd, bnd-add, bnd-zero}
@@ -34,6 +34,16 @@ module _ {A : Type 0} where
   pub all-both : (p q : A → Type 0) (l : List A) → All p l → All q l → All (λ x. p x × q x) l
   all-both p q [] a b = tt
   all-both p q (x ∷ l) a b = ((a .0, b .0), all-both p q l (a .1) (b .1))
+
+  pub all-take : (p : A → Type 0) (n : ℕ) (l : List A) → All p l → All p (take n l)
+  all-take p zero l a = tt
+  all-take p (suc n) [] a = tt
+  all-take p (suc n) (x ∷ l) a = (a .0, all-take p n l (a .1))
+
+  pub all-drop : (p : A → Type 0) (n : ℕ) (l : List A) → All p l → All p (drop n l)
+  all-drop p zero l a = a
+  all-drop p (suc n) [] a = tt
+  all-drop p (suc n) (x ∷ l) a = all-drop p n l (a .1)
 
 module _ {A B : Type 0} where
   pub mem-flatMap : (f : A → List B) {x : A} {y : B} {l : List A} → List·Memᴰ x l → List·Memᴰ y (f x) → List·Memᴰ y (flatMap f l)
