@@ -1,2 +1,5 @@
 pub mod Numbers
 pub mod Records
+pub mod Steps
+pub mod Grammar
+pub mod Files

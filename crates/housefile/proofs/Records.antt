@@ -162,8 +162,15 @@ module _ (front tail rest : List ℕ) where
   begins-other En h b = (sym (number-other 0 2 (omega arith)) ∙ b .0, longer 2 h)
   begins-other Fault h b = tt
 
-  pub decoded-other : (r : Record) → Known r → size r ≤ length front → decoded (front ++ tail) ≡ r → decoded (front ++ rest) ≡ r
+  decoded-other : (r : Record) → Known r → size r ≤ length front → decoded (front ++ tail) ≡ r → decoded (front ++ rest) ≡ r
   decoded-other r k h e = begins-decoded (front ++ rest) r k (begins-other r h (decoded-begins (front ++ tail) r e))
+
+-- whatever stands behind those bytes
+pub decoded-own : (bs : List ℕ) (r : Record) → Known r → decoded bs ≡ r → (rest : List ℕ) → decoded (take (size r) bs ++ rest) ≡ r
+decoded-own bs r k e rest =
+    decoded-other (take (size r) bs) (drop (size r) bs) rest r k
+    (rw (length-take-le (size r) bs (size-within bs r e)) (omega arith))
+    (ap decoded (take-append-drop (size r) bs) ∙ e)
 
 -- ---- there
 pub length-encoded : (r : Record) → length (encoded r) ≡ size r

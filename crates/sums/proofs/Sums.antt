@@ -31,6 +31,10 @@ module _ {A : Type 0} where
   all-++ p [] t a b = b
   all-++ p (x ∷ s) t a b = (a .0, all-++ p s t (a .1) b)
 
+  pub all-of-++ : (p : A → Type 0) (s t : List A) → All p (s ++ t) → All p s × All p t
+  all-of-++ p [] t a = (tt, a)
+  all-of-++ p (x ∷ s) t a = let (b, c) = all-of-++ p s t (a .1) in ((a .0, b), c)
+
   pub all-both : (p q : A → Type 0) (l : List A) → All p l → All q l → All (λ x. p x × q x) l
   all-both p q [] a b = tt
   all-both p q (x ∷ l) a b = ((a .0, b .0), all-both p q l (a .1) (b .1))
@@ -63,6 +67,11 @@ module _ {A B : Type 0} where
   unfolding flatMap
   all-flatMap p f [] a = tt
   all-flatMap p f (x ∷ l) a = all-++ p (f x) (flatMap f l) (a .0) (all-flatMap p f l (a .1))
+
+  pub all-of-flatMap : (p : B → Type 0) (f : A → List B) (l : List A) → All p (flatMap f l) → All (λ x. All p (f x)) l
+  unfolding flatMap
+  all-of-flatMap p f [] a = tt
+  all-of-flatMap p f (x ∷ l) a = let (b, c) = all-of-++ p (f x) (flatMap f l) a in (b, all-of-flatMap p f l c)
 
 -- ---- lists put together
 module _ {A B : Type 0} where
