@@ -3,3 +3,4 @@ pub mod Records
 pub mod Steps
 pub mod Grammar
 pub mod Files
+pub mod Refusals
