@@ -12,8 +12,8 @@ use Rattle.points.specs.declared.Point.{Point}
 use Rattle.housefile.specs.declared.Record.{Record}
 use Rattle.housefile.specs.declared.Record.the-variants.{Vx, En}
 use Rattle.housefile.specs.Records.{size, decoded, encoded}
-use Rattle.housefile.proofs.Numbers.{Byte}
-use Rattle.housefile.proofs.Records.{Storable, Known, Present, size-within, decoded-own, length-encoded, behind-encoded, decoded-encoded, encoded-decoded}
+use Rattle.housefile.specs.RoundTrip.{Byte}
+use Rattle.housefile.proofs.Records.{Storable, Known, Present, size-within, decoded-own, length-encoded, behind-encoded, decoded-encoded, encoded-decoded, decoded-storable}
 use Rattle.housefile.proofs.Grammar.{Three, facet-record, Facets-follow, end, facet, Follows, facets, vertex}
 
 abbrev pub facet-bytes : List Three → List ℕ
@@ -83,6 +83,17 @@ unfolding flatMap
 follows-bytes all p (facets f) = facets-bytes all f
 follows-bytes all p (vertex {bs = bs} {u = u} {vs = vs} {fs = fs} v e f) =
     again bs (Vx v) e u all (p .0) (file-of vs fs) (follows-bytes (all-drop Byte 26 bs all) (p .1) f) ∙ sym (vertex-first v vs fs)
+
+-- ---- and can be written
+facets-storable : {bs : List ℕ} {u : ℕ} {fs : List Three} → All Byte bs → Facets-follow bs u fs → All (λ t. Storable (facet-record t)) fs
+facets-storable all (end e) = tt
+facets-storable all (facet {bs = bs} t e f) = (decoded-storable bs all (facet-record t) e tt, facets-storable (all-drop Byte 14 bs all) f)
+
+pub follows-storable : {bs : List ℕ} {u : ℕ} {vs : List Point} {fs : List Three} → All Byte bs → Follows bs u vs fs
+    → All (λ v. Storable (Vx v)) vs × All (λ t. Storable (facet-record t)) fs
+follows-storable all (facets f) = (tt, facets-storable all f)
+follows-storable all (vertex {bs = bs} v e f) =
+    let (a, b) = follows-storable (all-drop Byte 26 bs all) f in ((decoded-storable bs all (Vx v) e tt, a), b)
 
 -- ---- records written one after the other follow the grammar
 

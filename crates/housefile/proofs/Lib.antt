@@ -4,3 +4,5 @@ pub mod Steps
 pub mod Grammar
 pub mod Files
 pub mod Refusals
+pub mod Shown
+pub mod RoundTrip

@@ -12,13 +12,7 @@ use lib.Ieee.{Float, binary64, ofBits, toBits, fits, isNan}
 use lib.Ieee.Bits.{ofBits-toBits, toBits-lt, ofBits-fits, toBits-ofBits}
 use Rattle.sums.proofs.Sums.{All, all-take, all-drop}
 use Rattle.housefile.specs.Numbers.{number, number-at, float-at, bytes, float-bytes}
-
-abbrev pub Byte : ℕ → Type 0
-Byte b = b < 256
-
--- the values of an f64: both zeros, the subnormals, the infinities and the NaN among them
-abbrev pub F64 : Float → Type 0
-F64 x = T (fits binary64 x)
+use Rattle.housefile.specs.RoundTrip.{Byte, F64}
 
 -- ---- whole numbers
 pub length-bytes : (n k : ℕ) → length (bytes n k) ≡ n

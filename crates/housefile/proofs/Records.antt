@@ -17,7 +17,8 @@ use Rattle.housefile.specs.declared.Record.{Record}
 use Rattle.housefile.specs.declared.Record.the-variants.{Vx, Fc, En, Fault}
 use Rattle.housefile.specs.Numbers.{number, number-at, float-at, bytes, float-bytes}
 use Rattle.housefile.specs.Records.{mark-VX, mark-FC, mark-EN, size, decoded, encoded}
-use Rattle.housefile.proofs.Numbers.{Byte, F64, length-bytes, number-bytes, number-front, float-front, number-at-lt, bytes-at, length-float-bytes, float-back, float-fits, float-bytes-at}
+use Rattle.housefile.specs.RoundTrip.{Byte, F64}
+use Rattle.housefile.proofs.Numbers.{length-bytes, number-bytes, number-front, float-front, number-at-lt, bytes-at, length-float-bytes, float-back, float-fits, float-bytes-at}
 
 -- ---- what a record may hold
 
