@@ -1,20 +1,25 @@
 -- Numbers as bytes, there and back: a number that fits, the bytes themselves, and an f64 with every bit but a NaN's.
-use mathlib.Core.Path.{_≡_, refl, sym, ap, ap₂, _∙_, subst}
-use mathlib.Core.Bool.{Bool, true, false, not}
+use mathlib.Core.Path.{_≡_, refl, ap, ap₂, _∙_, subst}
+use mathlib.Core.Bool.{false}
 use mathlib.Core.List.{List, [], _∷_, _++_}
 use Prim.Native.Nat.{ℕ, zero, suc, _+_, _*_, _/_, _%_, _^_, _<_, _≤_}
-use native.Mathlib.Nat.{mod-lt, mod-add-div, add-mul-mod-self-left, add-mul-div-left, mod-eq-of-lt, div-eq-of-lt, zero-add}
+use native.Mathlib.Nat.{mod-lt, mod-add-div}
 use native.Mathlib.Omega.{arith}
-use lib.Dec.{T, lit<}
+use lib.Dec.{lit<}
 use lib.ListN.{length, take, drop, length-drop}
 use lib.Seq.{take-append-le, drop-append-le, length-take-le}
-use lib.Ieee.{Float, binary64, ofBits, toBits, fits, isNan}
+use lib.Ieee.{Float, binary64, ofBits, toBits, isNan}
 use lib.Ieee.Bits.{ofBits-toBits, toBits-lt, ofBits-fits, toBits-ofBits}
 use Rattle.sums.proofs.Sums.{All, all-take, all-drop}
 use Rattle.housefile.specs.Numbers.{number, number-at, float-at, bytes, float-bytes}
 use Rattle.housefile.specs.RoundTrip.{Byte, F64}
 
 -- ---- whole numbers
+pub number-bytes : (n k : ℕ) → k < 256 ^ n → number (bytes n k) ≡ k
+unfolding bytes number
+number-bytes zero k h = omega arith
+number-bytes (suc n) k h = ap (λ m. k % 256 + 256 * m) (number-bytes n (k / 256) (omega arith)) ∙ mod-add-div k 256
+
 pub length-bytes : (n k : ℕ) → length (bytes n k) ≡ n
 unfolding bytes
 length-bytes zero k = refl
@@ -24,11 +29,6 @@ pub all-bytes : (n k : ℕ) → All Byte (bytes n k)
 unfolding bytes
 all-bytes zero k = tt
 all-bytes (suc n) k = (mod-lt k (lit< tt), all-bytes n (k / 256))
-
-pub number-bytes : (n k : ℕ) → k < 256 ^ n → number (bytes n k) ≡ k
-unfolding bytes number
-number-bytes zero k h = omega arith
-number-bytes (suc n) k h = ap (λ m. k % 256 + 256 * m) (number-bytes n (k / 256) (omega arith)) ∙ mod-add-div k 256
 
 pub number-lt : (bs : List ℕ) → All Byte bs → number bs < 256 ^ length bs
 unfolding number
@@ -82,11 +82,11 @@ bytes-at i n bs a h =
 -- ---- f64
 pub length-float-bytes : (x : Float) → length (float-bytes x) ≡ 8
 unfolding float-bytes
-length-float-bytes x = length-bytes 8 (toBits binary64 x)
+length-float-bytes x = length-bytes 8 _
 
 pub all-float-bytes : (x : Float) → All Byte (float-bytes x)
 unfolding float-bytes
-all-float-bytes x = all-bytes 8 (toBits binary64 x)
+all-float-bytes x = all-bytes 8 _
 
 -- Reading an f64's bytes gives the f64, sign of zero and all. Of the NaN too, of which there is one.
 pub float-back : (x : Float) → F64 x → ofBits binary64 (number (float-bytes x)) ≡ x

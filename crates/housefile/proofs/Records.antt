@@ -1,8 +1,9 @@
 -- Records as bytes, there and back. What a record's decoding looks at, and that it looks at no byte behind the record.
-use mathlib.Core.Path.{_≡_, refl, sym, ap, ap₂, _∙_, subst}
+use mathlib.Core.Path.{_≡_, refl, sym, ap, _∙_, subst}
 use mathlib.Core.Bool.{Bool, true, false, _&&_}
 use mathlib.Core.List.{List, [], _∷_, _++_, flatMap, append-nil, append-assoc}
-use Prim.Native.Nat.{ℕ, zero, suc, _+_, _^_, _<_, _≤_}
+use Prim.Native.Char.{code}
+use Prim.Native.Nat.{ℕ, _+_, _^_, _<_, _≤_}
 use native.Mathlib.Omega.{arith}
 use lib.Dec.{leb, eqb}
 use lib.ListN.{length, take, drop, length-append, take-append-drop}
@@ -19,6 +20,10 @@ use Rattle.housefile.specs.Numbers.{number, number-at, float-at, bytes, 
 use Rattle.housefile.specs.Records.{mark-VX, mark-FC, mark-EN, size, decoded, encoded}
 use Rattle.housefile.specs.RoundTrip.{Byte, F64}
 use Rattle.housefile.proofs.Numbers.{length-bytes, number-bytes, number-front, float-front, number-at-lt, bytes-at, length-float-bytes, float-back, float-fits, float-bytes-at}
+
+-- ---- "`VX`", "`FC`", "`EN`": the marks are these letters
+pub letters : (mark-VX ≡ code "V" ∷ code "X" ∷ []) × (mark-FC ≡ code "F" ∷ code "C" ∷ []) × (mark-EN ≡ code "E" ∷ code "N" ∷ [])
+letters = (refl, refl, refl)
 
 -- ---- what a record may hold
 

@@ -1,8 +1,8 @@
 -- "Reader's order: 9, then 2, 8, 3 to 6." and "The writer checks 1 to 6, then 8.": what `read` and `write` give, refusal by refusal, whatever else is
 -- wrong. Then that a refusal gives zero counts and the lent lists as they were, and what answer 0 says.
-use mathlib.Core.Path.{_≡_, refl, sym, ap, _∙_}
+use mathlib.Core.Path.{_≡_, refl, ap, _∙_}
 use mathlib.Core.Logic.{_≢_}
-use mathlib.Core.Bool.{Bool, true, false, _||_}
+use mathlib.Core.Bool.{Bool, true, false}
 use mathlib.Core.List.{List, [], _∷_}
 use Prim.Native.Nat.{ℕ, suc, _<_, _≤_}
 use native.Mathlib.Omega.{arith}
@@ -10,7 +10,7 @@ use lib.ListN.{length}
 use lib.Dec.{ltb}
 use lib.Ieee.{Float, isNan}
 use borrow.Author.Tests.{lt-ltb, le-ltb, ltb-false}
-use Rattle.sums.specs.Lists.{upTo, any, onto}
+use Rattle.sums.specs.Lists.{upTo, any}
 use Rattle.sums.proofs.Sums.{All}
 use Rattle.sums.proofs.Tests.{or-false}
 use Rattle.solids.specs.Refusals.{Verdict, accepted, refused, answer, given, in-order}
@@ -18,7 +18,7 @@ use Rattle.solids.specs.Solids.{Solid, vertices, facets, half-edges, pairs}
 use Rattle.solids.specs.Admission.{uneven, too-many, beyond, faulty, differ}
 use Rattle.solids.specs.Admission.{check-lengths, check-sizes, check-blanks, check-limit, check-corners, check-closure, admission}
 use Rattle.solids.proofs.Orders.{all-accepted, accepted-all, not-given}
-use Rattle.housefile.specs.Reader.{Layout, fault, laid, layout, unread, reading, too-short, read-solid, by-layout, read}
+use Rattle.housefile.specs.Reader.{Layout, Reading, fault, laid, layout, unread, reading, too-short, read-solid, by-layout, read}
 use Rattle.housefile.specs.Writer.{file, unwritten, writing, write}
 
 -- ---- the reader
@@ -81,23 +81,27 @@ module _ (s : Solid) (lent : List ℕ) where
     write-else h = rw (fine, le-ltb (length lent) (length (file s)) h)
 
 -- ---- a refusal gives zero counts and the lent lists as they were
-pub read-refusal : (bs : List ℕ) (ps : List Float) (cs : List ℕ) → (read bs ps cs) .answer ≢ 0 → read bs ps cs ≡ unread ((read bs ps cs) .answer) ps cs
+pub read-refusal : (bs : List ℕ) (ps : List Float) (cs : List ℕ) → (read bs ps cs) .answer ≢ 0
+    → read bs ps cs ≡ record { answer = (read bs ps cs) .answer; vertices = 0; facets = 0; used = 0; points = ps; corners = cs }
 unfolding read
 read-refusal bs ps cs = by-case (layout bs)
   where
-    checked : (v : Verdict) (used : ℕ) (s : Solid) → (reading v used s ps cs) .answer ≢ 0 → reading v used s ps cs ≡ unread ((reading v used s ps cs) .answer) ps cs
+    Plain : Reading → Type 0
+    Plain r = r ≡ record { answer = r .answer; vertices = 0; facets = 0; used = 0; points = ps; corners = cs }
+
+    checked : (v : Verdict) (used : ℕ) (s : Solid) → (reading v used s ps cs) .answer ≢ 0 → Plain (reading v used s ps cs)
     checked accepted used s d = absurd (d refl)
     checked (refused n) used s d = refl
 
-    by-case : (l : Layout) → (by-layout l ps cs) .answer ≢ 0 → by-layout l ps cs ≡ unread ((by-layout l ps cs) .answer) ps cs
+    by-case : (l : Layout) → (by-layout l ps cs) .answer ≢ 0 → Plain (by-layout l ps cs)
     by-case fault d = refl
     by-case (laid used xs ds) d = let s : Solid = record { points = xs; corners = ds } in checked (read-solid s ps cs) used s d
 
-pub write-refusal : (s : Solid) (lent : List ℕ) → (write s lent) .answer ≢ 0 → write s lent ≡ unwritten ((write s lent) .answer) lent
+pub write-refusal : (s : Solid) (lent : List ℕ) → (write s lent) .answer ≢ 0 → write s lent ≡ record { answer = (write s lent) .answer; used = 0; bytes = lent }
 unfolding write
 write-refusal s lent = by-case (in-order (admission s ∷ given 8 (ltb (length lent) (length (file s))) ∷ []))
   where
-    by-case : (v : Verdict) → (writing v (file s) lent) .answer ≢ 0 → writing v (file s) lent ≡ unwritten ((writing v (file s) lent) .answer) lent
+    by-case : (v : Verdict) → (writing v (file s) lent) .answer ≢ 0 → writing v (file s) lent ≡ record { answer = (writing v (file s) lent) .answer; used = 0; bytes = lent }
     by-case accepted d = absurd (d refl)
     by-case (refused n) d = refl
 

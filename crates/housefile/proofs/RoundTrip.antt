@@ -1,8 +1,8 @@
 -- The round trip of the house file: what is written is read as it was, what was accepted is written again with the same bytes, and bytes behind a
 -- file change nothing.
-use mathlib.Core.Path.{_≡_, refl, sym, ap, ap₂, _∙_, subst}
+use mathlib.Core.Path.{_≡_, sym, ap, ap₂, _∙_, subst}
 use mathlib.Core.Bool.{false}
-use mathlib.Core.List.{List, [], _∷_, _++_, List·Memᴰ}
+use mathlib.Core.List.{List, _++_}
 use Prim.Native.Nat.{ℕ, _*_, _/_, _%_, _≤_}
 use native.Mathlib.Omega.{arith}
 use lib.ListN.{length, take, drop}
@@ -15,8 +15,8 @@ use Rattle.solids.specs.Refusals.{accepted}
 use Rattle.solids.specs.Solids.{Solid, vertices, facets}
 use Rattle.solids.specs.Admission.{uneven, admission}
 use Rattle.solids.proofs.Admitted.{passed}
-use Rattle.housefile.specs.Reader.{Reading, laid, layout, reading, read-solid, by-layout, read}
-use Rattle.housefile.specs.Writer.{Writing, file, writing, write}
+use Rattle.housefile.specs.Reader.{Reading, laid, layout, reading, by-layout, read}
+use Rattle.housefile.specs.Writer.{Writing, file, write}
 use Rattle.housefile.specs.RoundTrip.{Byte, F64, solid-read, RoundTrip}
 use Rattle.housefile.proofs.Grammar.{Follows, follows-layout, layout-follows}
 use Rattle.housefile.proofs.Files.{follows-within, follows-alone, follows-bytes, file-written, follows-storable}
@@ -135,6 +135,12 @@ module _ (bs : List ℕ) (used : ℕ) (xs : List Float) (ds : List ℕ) (e : lay
   pub used-within : used ≤ length bs
   used-within = let (vs, fs, f, p, c) = layout-follows bs used xs ds e in follows-within f
 
+  -- a file's lists are of whole threes, so the reader has no check 1
+  pub layout-whole : (length xs % 3 ≡ 0) × (length ds % 3 ≡ 0)
+  layout-whole =
+      let (vs, fs, f, p, c) = layout-follows bs used xs ds e in
+      shown-whole (record { points = xs; corners = ds }) vs fs (record { points = p; corners = c })
+
   pub layout-alone : (rest : List ℕ) → layout (take used bs ++ rest) ≡ laid used xs ds
   layout-alone rest =
       let (vs, fs, f, p, c) = layout-follows bs used xs ds e in
@@ -148,6 +154,8 @@ module _ (bs : List ℕ) (used : ℕ) (xs : List Float) (ds : List ℕ) (e : lay
 pub round-trip : RoundTrip
 round-trip = record {
   written-then-read = λ s fine held rest ps cs hp hc. written-then-read s fine (all-of F64 (s .points) held) ps cs hp hc rest;
+  write-then-read = λ s lent z held ps cs hp hc. same-solid s lent z (all-of F64 (s .points) held) ps cs hp hc;
   read-then-written = λ bs all ps cs z. read-then-written bs (all-of Byte bs all) ps cs z;
+  read-then-write = λ bs all ps cs z lent h. read-then-write bs (all-of Byte bs all) ps cs z lent h;
   behind-changes-nothing = behind-changes-nothing;
 }

@@ -1,20 +1,19 @@
 -- A solid's file, and the solid of a file: both are a list of points and a list of facets, so a solid's file is a file of the grammar.
 use mathlib.Core.Path.{_≡_, refl, sym, ap, ap₂, _∙_, subst}
-use mathlib.Core.Bool.{false}
-use mathlib.Core.List.{List, [], _∷_, _++_, flatMap}
-use Prim.Native.Nat.{ℕ, _+_, _*_, _/_, _%_, _^_, _<_, _≤_}
+use mathlib.Core.List.{List, _++_, flatMap}
+use Prim.Native.Nat.{ℕ, _+_, _*_, _/_, _%_}
 use native.Mathlib.Omega.{arith}
 use lib.ListN.{length, getD}
 use lib.Ieee.{Float}
 use Rattle.sums.specs.Lists.{upTo}
-use Rattle.sums.proofs.Sums.{All, all-mono, all-of-flatMap}
+use Rattle.sums.proofs.Sums.{All, all-of-flatMap}
 use Rattle.sums.proofs.Threes.{in-threes, third-threes, rest-threes, flat-threes}
 use Rattle.points.specs.declared.Point.{Point}
 use Rattle.points.specs.declared.Axis.the-variants.{X, Y, Z}
 use Rattle.points.specs.Points.{coordinate, coordinates, zero-number}
 use Rattle.solids.specs.Refusals.{accepted}
 use Rattle.solids.specs.Solids.{Solid, vertices, facets, vertex, corner}
-use Rattle.solids.specs.Admission.{uneven, admission}
+use Rattle.solids.specs.Admission.{admission}
 use Rattle.solids.proofs.Admitted.{Proper, Passed, passed}
 use Rattle.solids.proofs.Laid.{laid-whole, laid-facets, each-laid}
 use Rattle.housefile.specs.declared.Record.the-variants.{Vx, Fc, En}

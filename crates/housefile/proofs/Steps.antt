@@ -29,13 +29,19 @@ no-bytes (suc n) b bs (Fc p q r) s h = absurd (omega arith)
 no-bytes (suc n) b bs En s h = absurd (omega arith)
 no-bytes (suc n) b bs Fault s h = refl
 
+-- "All VX come before all FC"
+late : (n : ℕ) (bs : List ℕ) (v : Point) → records n true (Vx v) bs ≡ fault
+unfolding records
+late zero bs v = refl
+late (suc n) bs v = refl
+
 pub any-bound : (n m : ℕ) (b : Bool) (bs : List ℕ) (r : Record) → decoded bs ≡ r → length bs ≤ n → length bs ≤ m → records n b r bs ≡ records m b r bs
 unfolding records
 any-bound zero m b bs r e h l = sym (no-bytes m b bs r (size-within bs r e) h)
 any-bound (suc n) zero b bs r e h l = no-bytes (suc n) b bs r (size-within bs r e) l
 any-bound (suc n) (suc m) b bs En e h l = refl
 any-bound (suc n) (suc m) b bs Fault e h l = refl
-any-bound (suc n) (suc m) true bs (Vx v) e h l = refl
+any-bound (suc n) (suc m) true bs (Vx v) e h l = late (suc n) bs v ∙ sym (late (suc m) bs v)
 any-bound (suc n) (suc m) false bs (Vx v) e h l =
     let s = size-within bs (Vx v) e in
     ap (after 26 (coordinates v) []) (any-bound n m false (drop 26 bs) (decoded (drop 26 bs)) refl (shorter n 25 bs s h) (shorter m 25 bs s l))
@@ -59,10 +65,8 @@ module _ (bs : List ℕ) where
   unfolding records
   at-fault b e = once b Fault e
 
-  -- "All VX come before all FC"
   pub late-vertex : (v : Point) → decoded bs ≡ Vx v → layout-from true bs ≡ fault
-  unfolding records
-  late-vertex v e = once true (Vx v) e
+  late-vertex v e = ap (λ r. records (length bs) true r bs) e ∙ late (length bs) bs v
 
   pub at-vertex : (v : Point) → decoded bs ≡ Vx v → layout-from false bs ≡ after 26 (coordinates v) [] (layout-from false (drop 26 bs))
   unfolding records

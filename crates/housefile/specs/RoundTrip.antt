@@ -31,9 +31,18 @@ pub record RoundTrip : Type 0 where
       → (rest : List ℕ) (ps : List Float) (cs : List ℕ) → length (s .points) ≤ length ps → length (s .corners) ≤ length cs
       → read (file s ++ rest) ps cs
       ≡ record { answer = 0; vertices = vertices s; facets = facets s; used = length (file s); points = onto (s .points) ps; corners = onto (s .corners) cs }
+  -- so, by the two calls, the solid that was written is read, bit for bit
+  pub write-then-read : (s : Solid) (lent : List ℕ) → (write s lent) .answer ≡ 0 → ((x : Float) → List·Memᴰ x (s .points) → F64 x)
+      → (ps : List Float) (cs : List ℕ) → length (s .points) ≤ length ps → length (s .corners) ≤ length cs
+      → solid-read (read ((write s lent) .bytes) ps cs) ≡ s
   -- an accepted file is written again with the same bytes
   pub read-then-written : (bs : List ℕ) → ((b : ℕ) → List·Memᴰ b bs → Byte b) → (ps : List Float) (cs : List ℕ) → (read bs ps cs) .answer ≡ 0
       → file (solid-read (read bs ps cs)) ≡ take ((read bs ps cs) .used) bs
-  -- "bytes behind EN are not its business": no part of the reading, accepted or not, depends on them
+  -- so, by the two calls, given room
+  pub read-then-write : (bs : List ℕ) → ((b : ℕ) → List·Memᴰ b bs → Byte b) → (ps : List Float) (cs : List ℕ) → (read bs ps cs) .answer ≡ 0
+      → (lent : List ℕ) → (read bs ps cs) .used ≤ length lent
+      → write (solid-read (read bs ps cs)) lent
+      ≡ record { answer = 0; used = (read bs ps cs) .used; bytes = onto (take ((read bs ps cs) .used) bs) lent }
+  -- "bytes behind EN are not its business": no part of a reading, accepted or not, depends on them
   pub behind-changes-nothing : (bs : List ℕ) (used : ℕ) (xs : List Float) (ds : List ℕ) → layout bs ≡ laid used xs ds
       → (rest : List ℕ) (ps : List Float) (cs : List ℕ) → read (take used bs ++ rest) ps cs ≡ read bs ps cs
