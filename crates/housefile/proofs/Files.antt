@@ -44,7 +44,8 @@ facets-alone (facet {bs = bs} {u = u} {fs = fs} t e f) rest =
     let r = facet-record t in
     facet t (record-alone bs r e u rest tt) (subst (λ l. Facets-follow l u fs) (sym (behind-alone bs r e u rest)) (facets-alone f rest))
 
-pub follows-alone : {bs : List ℕ} {u : ℕ} {vs : List Point} {fs : List Three} → Follows bs u vs fs → (rest : List ℕ) → Follows (take u bs ++ rest) u vs fs
+pub follows-alone : {bs : List ℕ} {u : ℕ} {vs : List Point} {fs : List Three} → Follows bs u vs fs
+    → (rest : List ℕ) → Follows (take u bs ++ rest) u vs fs
 follows-alone (facets f) rest = facets (facets-alone f rest)
 follows-alone (vertex {bs = bs} {u = u} {vs = vs} {fs = fs} v e f) rest =
     vertex v (record-alone bs (Vx v) e u rest tt) (subst (λ l. Follows l u vs fs) (sym (behind-alone bs (Vx v) e u rest)) (follows-alone f rest))
@@ -57,7 +58,8 @@ facets-bytes all (facet {bs = bs} {u = u} {fs = fs} t e f) =
     let r = facet-record t in
     written-again bs r e u all tt (facet-bytes fs) (facets-bytes (all-drop Byte 14 bs all) f) ∙ sym (facet-first t fs)
 
-pub follows-bytes : {bs : List ℕ} {u : ℕ} {vs : List Point} {fs : List Three} → All Byte bs → All (λ v. Present (Vx v)) vs → Follows bs u vs fs → take u bs ≡ file-of vs fs
+pub follows-bytes : {bs : List ℕ} {u : ℕ} {vs : List Point} {fs : List Three} → All Byte bs → All (λ v. Present (Vx v)) vs
+    → Follows bs u vs fs → take u bs ≡ file-of vs fs
 unfolding flatMap
 follows-bytes all p (facets f) = facets-bytes all f
 follows-bytes all p (vertex {bs = bs} {u = u} {vs = vs} {fs = fs} v e f) =
@@ -75,7 +77,8 @@ follows-storable all (vertex {bs = bs} v e f) =
     let (a, b) = follows-storable (all-drop Byte 26 bs all) f in ((decoded-storable bs all (Vx v) e tt, a), b)
 
 -- ---- records written one after the other follow the grammar
-facets-written : (fs : List Three) → All (λ t. Storable (facet-record t)) fs → (rest : List ℕ) → Facets-follow (facet-bytes fs ++ rest) (length (facet-bytes fs)) fs
+facets-written : (fs : List Three) → All (λ t. Storable (facet-record t)) fs
+    → (rest : List ℕ) → Facets-follow (facet-bytes fs ++ rest) (length (facet-bytes fs)) fs
 unfolding flatMap encoded
 facets-written [] a rest = end (decoded-encoded En tt rest)
 facets-written (t ∷ fs) a rest =
@@ -93,7 +96,8 @@ file-written (v ∷ vs) fs a b rest =
     let l = file-of vs fs in
     subst (λ k. Follows (k ++ rest) (length k) (v ∷ vs) fs) (sym (vertex-first v vs fs))
     (subst (λ u. Follows ((encoded (Vx v) ++ l) ++ rest) u (v ∷ vs) fs) (sym (length-put (Vx v) l))
-    (vertex v (put-decoded (Vx v) l rest (a .0)) (subst (λ k. Follows k (length l) vs fs) (sym (put-behind (Vx v) l rest)) (file-written vs fs (a .1) b rest))))
+    (vertex v (put-decoded (Vx v) l rest (a .0))
+    (subst (λ k. Follows k (length l) vs fs) (sym (put-behind (Vx v) l rest)) (file-written vs fs (a .1) b rest))))
 
 -- ---- how long a file is
 length-facet-bytes : (fs : List Three) → length (facet-bytes fs) ≡ 14 * length fs + 2

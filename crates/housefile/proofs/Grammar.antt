@@ -28,12 +28,14 @@ facet-record t = Fc (t .0) (t .1) (t .2)
 -- bs begin with the facets fs and the end, which take u bytes
 pub data Facets-follow : List ℕ → ℕ → List Three → Type 0 where
   end : {bs : List ℕ} → decoded bs ≡ En → Facets-follow bs 2 []
-  facet : {bs : List ℕ} {u : ℕ} {fs : List Three} (t : Three) → decoded bs ≡ facet-record t → Facets-follow (drop 14 bs) u fs → Facets-follow bs (14 + u) (t ∷ fs)
+  facet : {bs : List ℕ} {u : ℕ} {fs : List Three} (t : Three) → decoded bs ≡ facet-record t
+      → Facets-follow (drop 14 bs) u fs → Facets-follow bs (14 + u) (t ∷ fs)
 
 -- bs begin with the vertices vs, the facets fs and the end, which take u bytes
 pub data Follows : List ℕ → ℕ → List Point → List Three → Type 0 where
   facets : {bs : List ℕ} {u : ℕ} {fs : List Three} → Facets-follow bs u fs → Follows bs u [] fs
-  vertex : {bs : List ℕ} {u : ℕ} {vs : List Point} {fs : List Three} (v : Point) → decoded bs ≡ Vx v → Follows (drop 26 bs) u vs fs → Follows bs (26 + u) (v ∷ vs) fs
+  vertex : {bs : List ℕ} {u : ℕ} {vs : List Point} {fs : List Three} (v : Point) → decoded bs ≡ Vx v
+      → Follows (drop 26 bs) u vs fs → Follows bs (26 + u) (v ∷ vs) fs
 
 -- ---- bytes that follow it have that layout
 facets-layout : {bs : List ℕ} {u : ℕ} {fs : List Three} (b : Bool) → Facets-follow bs u fs → layout-from b bs ≡ laid u [] (flatMap corners-of fs)
@@ -41,7 +43,8 @@ unfolding flatMap
 facets-layout b (end {bs = bs} e) = at-end bs b e
 facets-layout b (facet {bs = bs} t e f) = at-facet bs b (t .0) (t .1) (t .2) e ∙ ap (after 14 [] (corners-of t)) (facets-layout true f)
 
-pub follows-layout : {bs : List ℕ} {u : ℕ} {vs : List Point} {fs : List Three} → Follows bs u vs fs → layout bs ≡ laid u (flatMap coordinates vs) (flatMap corners-of fs)
+pub follows-layout : {bs : List ℕ} {u : ℕ} {vs : List Point} {fs : List Three} → Follows bs u vs fs
+    → layout bs ≡ laid u (flatMap coordinates vs) (flatMap corners-of fs)
 unfolding flatMap layout
 follows-layout (facets f) = facets-layout false f
 follows-layout (vertex {bs = bs} v e f) = at-vertex bs v e ∙ ap (after 26 (coordinates v) []) (follows-layout f)
@@ -50,14 +53,17 @@ follows-layout (vertex {bs = bs} v e f) = at-vertex bs v e ∙ ap (after 26 (coo
 abbrev Described : Bool → List ℕ → Layout → Type 0
 Described b bs fault = Unit {0}
 Described true bs (laid u xs cs) = (fs : List Three) × Facets-follow bs u fs × (xs ≡ []) × (cs ≡ flatMap corners-of fs)
-Described false bs (laid u xs cs) = (vs : List Point) × (fs : List Three) × Follows bs u vs fs × (xs ≡ flatMap coordinates vs) × (cs ≡ flatMap corners-of fs)
+Described false bs (laid u xs cs) =
+    (vs : List Point) × (fs : List Three) × Follows bs u vs fs × (xs ≡ flatMap coordinates vs) × (cs ≡ flatMap corners-of fs)
 
-add-vertex : (bs : List ℕ) (v : Point) → decoded bs ≡ Vx v → (l : Layout) → Described false (drop 26 bs) l → Described false bs (after 26 (coordinates v) [] l)
+add-vertex : (bs : List ℕ) (v : Point) → decoded bs ≡ Vx v → (l : Layout) → Described false (drop 26 bs) l
+    → Described false bs (after 26 (coordinates v) [] l)
 unfolding flatMap
 add-vertex bs v e fault d = tt
 add-vertex bs v e (laid u xs cs) (vs, fs, f, p, q) = (v ∷ vs, fs, vertex v e f, ap (λ l. coordinates v ++ l) p, q)
 
-add-facet : (bs : List ℕ) (t : Three) → decoded bs ≡ facet-record t → (l : Layout) → Described true (drop 14 bs) l → Described true bs (after 14 [] (corners-of t) l)
+add-facet : (bs : List ℕ) (t : Three) → decoded bs ≡ facet-record t → (l : Layout) → Described true (drop 14 bs) l
+    → Described true bs (after 14 [] (corners-of t) l)
 unfolding flatMap
 add-facet bs t e fault d = tt
 add-facet bs t e (laid u xs cs) (fs, f, p, q) = (t ∷ fs, facet t e f, p, ap (λ l. corners-of t ++ l) q)

@@ -77,9 +77,11 @@ module _ (m a b c rest : List ℕ) (k : ℕ) (lm : length m ≡ 2) (la : length 
   third-part : take k (drop (2 + k + k) all) ≡ c
   third-part = ap (take k) behind-second ∙ take-at c _ k lc
 
-parts : (k : ℕ) (bs : List ℕ) → take (2 + k + k + k) bs ≡ take 2 bs ++ (take k (drop 2 bs) ++ (take k (drop (2 + k) bs) ++ take k (drop (2 + k + k) bs)))
+parts : (k : ℕ) (bs : List ℕ)
+    → take (2 + k + k + k) bs ≡ take 2 bs ++ (take k (drop 2 bs) ++ (take k (drop (2 + k) bs) ++ take k (drop (2 + k + k) bs)))
 parts k bs =
-    take-add (2 + k + k) k bs ∙ ap (λ l. l ++ take k (drop (2 + k + k) bs)) (take-add (2 + k) k bs ∙ ap (λ l. l ++ take k (drop (2 + k) bs)) (take-add 2 k bs))
+    take-add (2 + k + k) k bs
+    ∙ ap (λ l. l ++ take k (drop (2 + k + k) bs)) (take-add (2 + k) k bs ∙ ap (λ l. l ++ take k (drop (2 + k) bs)) (take-add 2 k bs))
     ∙ simp append-assoc
 
 -- ---- what decoding looks at
@@ -92,7 +94,8 @@ marked mark n bs = eqb (number-at 0 2 bs) (number mark) && leb n (length bs)
 
 abbrev pub Begins : List ℕ → Record → Type 0
 Begins bs (Vx v) = (number-at 0 2 bs ≡ number mark-VX) × (26 ≤ length bs) × (v ≡ vertex-at bs)
-Begins bs (Fc p q r) = (number-at 0 2 bs ≡ number mark-FC) × (14 ≤ length bs) × (p ≡ number-at 2 4 bs) × (q ≡ number-at 6 4 bs) × (r ≡ number-at 10 4 bs)
+Begins bs (Fc p q r) =
+    (number-at 0 2 bs ≡ number mark-FC) × (14 ≤ length bs) × (p ≡ number-at 2 4 bs) × (q ≡ number-at 6 4 bs) × (r ≡ number-at 10 4 bs)
 Begins bs En = (number-at 0 2 bs ≡ number mark-EN) × (2 ≤ length bs)
 Begins bs Fault = Unit {0}
 
@@ -106,7 +109,8 @@ module _ (bs : List ℕ) where
   unfolding decoded
   begins = go (marked mark-VX 26 bs) refl (marked mark-FC 14 bs) refl (marked mark-EN 2 bs) refl
     where
-      go : (a : Bool) → marked mark-VX 26 bs ≡ a → (b : Bool) → marked mark-FC 14 bs ≡ b → (c : Bool) → marked mark-EN 2 bs ≡ c → Begins bs (decoded bs)
+      go : (a : Bool) → marked mark-VX 26 bs ≡ a → (b : Bool) → marked mark-FC 14 bs ≡ b
+          → (c : Bool) → marked mark-EN 2 bs ≡ c → Begins bs (decoded bs)
       go true e b f c g = rw (e, decoded) (let (m, n) = is-marked mark-VX 26 e in (m, n, refl))
       go false e true f c g = rw (e, f, decoded) (let (m, n) = is-marked mark-FC 14 f in (m, n, refl, refl, refl))
       go false e false f true g = rw (e, f, g, decoded) (is-marked mark-EN 2 g)
@@ -128,7 +132,8 @@ module _ (bs : List ℕ) where
   begins-decoded (Vx v) k b = rw (marked-is mark-VX 26 (b .0) (b .1), decoded) (ap Vx (sym (b .2)))
   begins-decoded (Fc p q r) k b =
       rw (marked-not mark-FC mark-VX 26 (b .0) refl, marked-is mark-FC 14 (b .0) (b .1), b .2, b .3, b .4, decoded)
-  begins-decoded En k b = rw (marked-not mark-EN mark-VX 26 (b .0) refl, marked-not mark-EN mark-FC 14 (b .0) refl, marked-is mark-EN 2 (b .0) (b .1), decoded)
+  begins-decoded En k b =
+      rw (marked-not mark-EN mark-VX 26 (b .0) refl, marked-not mark-EN mark-FC 14 (b .0) refl, marked-is mark-EN 2 (b .0) (b .1), decoded)
   begins-decoded Fault k b = absurd k
 
   -- ---- how far a record reaches
@@ -223,7 +228,8 @@ vx-begins v (hx, (hy, (hz, end))) rest =
       },
     )
 
-fc-begins : (p q r : ℕ) → All (λ k. k < 256 ^ 4) (p ∷ q ∷ r ∷ []) → (rest : List ℕ) → Begins (joined mark-FC (bytes 4 p) (bytes 4 q) (bytes 4 r) rest) (Fc p q r)
+fc-begins : (p q r : ℕ) → All (λ k. k < 256 ^ 4) (p ∷ q ∷ r ∷ [])
+    → (rest : List ℕ) → Begins (joined mark-FC (bytes 4 p) (bytes 4 q) (bytes 4 r) rest) (Fc p q r)
 unfolding number-at
 fc-begins p q r (hp, (hq, (hr, end))) rest =
     let lp = length-bytes 4 p in
@@ -300,11 +306,13 @@ module _ (bs : List ℕ) (all : All Byte bs) where
   pub decoded-storable : (r : Record) → decoded bs ≡ r → Known r → Storable r
   decoded-storable r e k = go r (decoded-begins bs r e) k
     where
+      small : (i k : ℕ) → i + 4 ≤ length bs → k ≡ number-at i 4 bs → k < 256 ^ 4
+      small i k h e = subst (λ k. k < 256 ^ 4) (sym e) (number-at-lt i 4 bs all h)
+
       go : (r : Record) → Begins bs r → Known r → Storable r
       go (Vx v) b k = subst (λ w. Storable (Vx w)) (sym (b .2)) (float-fits 2 bs, (float-fits 10 bs, (float-fits 18 bs, tt)))
       go (Fc p q r) b k =
           let n : 14 ≤ length bs = b .1 in
-          let small : (i k : ℕ) → i + 4 ≤ length bs → k ≡ number-at i 4 bs → k < 256 ^ 4 = λ i k h e. subst (λ k. k < 256 ^ 4) (sym e) (number-at-lt i 4 bs all h) in
           (small 2 p (omega arith) (b .2), (small 6 q (omega arith) (b .3), (small 10 r (omega arith) (b .4), tt)))
       go En b k = tt
       go Fault b k = k

@@ -10,7 +10,7 @@ use lib.ListN.{length}
 use lib.Dec.{ltb}
 use lib.Ieee.{Float, isNan}
 use borrow.Author.Tests.{lt-ltb, le-ltb, ltb-false}
-use Rattle.sums.specs.Lists.{upTo, any}
+use Rattle.sums.specs.Lists.{upTo, any, onto}
 use Rattle.sums.proofs.Sums.{All}
 use Rattle.sums.proofs.Tests.{or-false}
 use Rattle.solids.specs.Refusals.{Verdict, accepted, refused, answer, given, in-order}
@@ -61,7 +61,16 @@ module _ (bs : List ℕ) (ps : List Float) (cs : List ℕ) where
               unfolding read-solid in-order check-sizes check-blanks check-limit check-corners check-closure
               read-then-6 e = read-checked ∙ rw (no-2, no-8, no-3, no-4, no-5, e)
 
-              pub read-else : any (differ (half-edges s)) (pairs (vertices s)) ≡ false → read bs ps cs ≡ reading accepted used s ps cs
+              pub read-else : any (differ (half-edges s)) (pairs (vertices s)) ≡ false
+                  → read bs ps cs
+                  ≡ record {
+                    answer = 0;
+                    vertices = vertices s;
+                    facets = facets s;
+                    used = used;
+                    points = onto (s .points) ps;
+                    corners = onto (s .corners) cs;
+                  }
               unfolding read-solid in-order check-sizes check-blanks check-limit check-corners check-closure
               read-else e = read-checked ∙ rw (no-2, no-8, no-3, no-4, no-5, e)
 
@@ -76,7 +85,7 @@ module _ (s : Solid) (lent : List ℕ) where
     unfolding write in-order
     write-then-8 h = rw (fine, lt-ltb (length lent) (length (file s)) h)
 
-    pub write-else : length (file s) ≤ length lent → write s lent ≡ writing accepted (file s) lent
+    pub write-else : length (file s) ≤ length lent → write s lent ≡ record { answer = 0; used = length (file s); bytes = onto (file s) lent }
     unfolding write in-order
     write-else h = rw (fine, le-ltb (length lent) (length (file s)) h)
 
@@ -97,11 +106,13 @@ read-refusal bs ps cs = by-case (layout bs)
     by-case fault d = refl
     by-case (laid used xs ds) d = let s : Solid = record { points = xs; corners = ds } in checked (read-solid s ps cs) used s d
 
-pub write-refusal : (s : Solid) (lent : List ℕ) → (write s lent) .answer ≢ 0 → write s lent ≡ record { answer = (write s lent) .answer; used = 0; bytes = lent }
+pub write-refusal : (s : Solid) (lent : List ℕ) → (write s lent) .answer ≢ 0
+    → write s lent ≡ record { answer = (write s lent) .answer; used = 0; bytes = lent }
 unfolding write
 write-refusal s lent = by-case (in-order (admission s ∷ given 8 (ltb (length lent) (length (file s))) ∷ []))
   where
-    by-case : (v : Verdict) → (writing v (file s) lent) .answer ≢ 0 → writing v (file s) lent ≡ record { answer = (writing v (file s) lent) .answer; used = 0; bytes = lent }
+    by-case : (v : Verdict) → (writing v (file s) lent) .answer ≢ 0
+        → writing v (file s) lent ≡ record { answer = (writing v (file s) lent) .answer; used = 0; bytes = lent }
     by-case accepted d = absurd (d refl)
     by-case (refused n) d = refl
 
@@ -136,7 +147,8 @@ module _ (s : Solid) where
   admission-numbered : Numbered (admission s)
   unfolding admission check-lengths check-sizes later-checks
   admission-numbered =
-      in-order-numbered (check-lengths s ∷ check-sizes s ∷ later-checks) (given-numbered 0 (uneven s), (given-numbered 1 (too-many s), later-numbered))
+      in-order-numbered (check-lengths s ∷ check-sizes s ∷ later-checks)
+      (given-numbered 0 (uneven s), (given-numbered 1 (too-many s), later-numbered))
 
   read-solid-numbered : (ps : List Float) (cs : List ℕ) → Numbered (read-solid s ps cs)
   unfolding read-solid check-sizes later-checks
@@ -153,7 +165,8 @@ read-success bs ps cs = by-case (layout bs)
     checked accepted used s e = refl
     checked (refused n) used s e = e
 
-    by-case : (l : Layout) → (by-layout l ps cs) .answer ≡ 0 → (used : ℕ) × (s : Solid) × (l ≡ laid used (s .points) (s .corners)) × (read-solid s ps cs ≡ accepted)
+    by-case : (l : Layout) → (by-layout l ps cs) .answer ≡ 0
+        → (used : ℕ) × (s : Solid) × (l ≡ laid used (s .points) (s .corners)) × (read-solid s ps cs ≡ accepted)
     by-case fault e = absurd (omega arith)
     by-case (laid used xs ds) e =
         let s : Solid = record { points = xs; corners = ds } in
@@ -162,7 +175,8 @@ read-success bs ps cs = by-case (layout bs)
 pub write-success : (s : Solid) (lent : List ℕ) → (write s lent) .answer ≡ 0 → (admission s ≡ accepted) × (length (file s) ≤ length lent)
 unfolding write
 write-success s lent e =
-    let (a, (b, end)) = all-accepted checks (in-order-numbered checks (admission-numbered s, (given-numbered 7 (ltb (length lent) (length (file s))), tt)) (checked (in-order checks) e)) in
+    let numbered = in-order-numbered checks (admission-numbered s, (given-numbered 7 (ltb (length lent) (length (file s))), tt)) in
+    let (a, (b, end)) = all-accepted checks (numbered (checked (in-order checks) e)) in
     (a, ltb-false _ _ (not-given _ _ b))
   where
     checks : List Verdict

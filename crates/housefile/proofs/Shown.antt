@@ -10,7 +10,7 @@ use Rattle.sums.proofs.Sums.{All, all-of-flatMap}
 use Rattle.sums.proofs.Threes.{in-threes, third-threes, rest-threes, flat-threes}
 use Rattle.points.specs.declared.Point.{Point}
 use Rattle.points.specs.declared.Axis.the-variants.{X, Y, Z}
-use Rattle.points.specs.Points.{coordinate, coordinates, zero-number}
+use Rattle.points.specs.Points.{coordinate, coordinates, zero-number as O}
 use Rattle.solids.specs.Refusals.{accepted}
 use Rattle.solids.specs.Solids.{Solid, vertices, facets, vertex, corner}
 use Rattle.solids.specs.Admission.{admission}
@@ -75,10 +75,11 @@ module _ (s : Solid) (vs : List Point) (fs : List Three) (h : Shows s vs fs) whe
     where
       vertex-part : flatMap (λ i. encoded (Vx (vertex s i))) (upTo (vertices s)) ≡ flatMap (λ v. encoded (Vx v)) vs
       vertex-part =
-          ap (λ l. flatMap (λ i. vx (getD l (3 * i + 0) zero-number) (getD l (3 * i + 1) zero-number) (getD l (3 * i + 2) zero-number)) (upTo (length l / 3))) (h .points)
-          ∙ flat-threes (coordinate X) (coordinate Y) (coordinate Z) vs zero-number (λ i. 3 * i + 0) first vx
+          ap (λ l. flatMap (λ i. vx (getD l (3 * i + 0) O) (getD l (3 * i + 1) O) (getD l (3 * i + 2) O)) (upTo (length l / 3))) (h .points)
+          ∙ flat-threes (coordinate X) (coordinate Y) (coordinate Z) vs O (λ i. 3 * i + 0) first vx
 
-      facet-part : flatMap (λ f. encoded (Fc (corner s f 0) (corner s f 1) (corner s f 2))) (upTo (facets s)) ≡ flatMap (λ t. encoded (facet-record t)) fs
+      facet-part : flatMap (λ f. encoded (Fc (corner s f 0) (corner s f 1) (corner s f 2))) (upTo (facets s))
+          ≡ flatMap (λ t. encoded (facet-record t)) fs
       facet-part =
           ap (λ l. flatMap (λ i. fc (getD l (3 * i + 0) 0) (getD l (3 * i + 1) 0) (getD l (3 * i + 2) 0)) (upTo (length l / 3))) (h .corners)
           ∙ flat-threes c0 c1 c2 fs 0 (λ i. 3 * i + 0) first fc

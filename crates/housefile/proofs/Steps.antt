@@ -1,10 +1,12 @@
 -- The layout of a file, record by record. The bound on how many records are looked at is never met, so it is gone from these laws.
 use mathlib.Core.Path.{_≡_, refl, sym, ap, _∙_}
 use mathlib.Core.Bool.{Bool, true, false}
-use mathlib.Core.List.{List, [], _∷_}
-use Prim.Native.Nat.{ℕ, zero, suc, _≤_}
+use mathlib.Core.List.{List, [], _∷_, _++_, append-assoc}
+use Prim.Native.Nat.{ℕ, zero, suc, _+_, _≤_}
+use native.Mathlib.Nat.{zero-add, add-assoc}
 use native.Mathlib.Omega.{arith}
 use lib.ListN.{length, drop, length-drop}
+use lib.Ieee.{Float}
 use Rattle.points.specs.declared.Point.{Point}
 use Rattle.points.specs.Points.{coordinates}
 use Rattle.housefile.specs.declared.Record.{Record}
@@ -75,3 +77,14 @@ module _ (bs : List ℕ) where
   pub at-facet : (b : Bool) (p q r : ℕ) → decoded bs ≡ Fc p q r → layout-from b bs ≡ after 14 [] (p ∷ q ∷ r ∷ []) (layout-from true (drop 14 bs))
   unfolding records
   at-facet b p q r e = once b (Fc p q r) e ∙ ap (after 14 [] (p ∷ q ∷ r ∷ [])) (behind true 14)
+
+-- ---- records that were walked over, with the layout of what is left
+pub after-none : (l : Layout) → after 0 [] [] l ≡ l
+after-none fault = refl
+after-none (laid u xs cs) = ap (λ n. laid n xs cs) (zero-add u)
+
+pub after-after : (m n : ℕ) (xs ys : List Float) (cs ds : List ℕ) (l : Layout)
+    → after m xs cs (after n ys ds l) ≡ after (m + n) (xs ++ ys) (cs ++ ds) l
+after-after m n xs ys cs ds fault = refl
+after-after m n xs ys cs ds (laid u zs es) =
+    sym (λ i. laid (add-assoc m n u i) (append-assoc xs ys zs i) (append-assoc cs ds es i))

@@ -1,5 +1,5 @@
--- The round trip of the house file, as a statement: what is written is read as it was, bit for bit; what is read and accepted is written again byte by
--- byte; and bytes behind a file change nothing. Proved in proofs/RoundTrip.antt.
+-- The round trip of the house file, as a statement: what is written is read as it was, bit for bit; what is read and accepted is written again
+-- byte by byte; and bytes behind a file change nothing. Proved in proofs/RoundTrip.antt.
 use Prim.Native.Nat.{ℕ, _*_, _<_, _≤_}
 use mathlib.Core.Path.{_≡_}
 use mathlib.Core.List.{List, _++_, List·Memᴰ}
@@ -30,7 +30,14 @@ pub record RoundTrip : Type 0 where
   pub written-then-read : (s : Solid) → admission s ≡ accepted → ((x : Float) → List·Memᴰ x (s .points) → F64 x)
       → (rest : List ℕ) (ps : List Float) (cs : List ℕ) → length (s .points) ≤ length ps → length (s .corners) ≤ length cs
       → read (file s ++ rest) ps cs
-      ≡ record { answer = 0; vertices = vertices s; facets = facets s; used = length (file s); points = onto (s .points) ps; corners = onto (s .corners) cs }
+      ≡ record {
+        answer = 0;
+        vertices = vertices s;
+        facets = facets s;
+        used = length (file s);
+        points = onto (s .points) ps;
+        corners = onto (s .corners) cs;
+      }
   -- so, by the two calls, the solid that was written is read, bit for bit
   pub write-then-read : (s : Solid) (lent : List ℕ) → (write s lent) .answer ≡ 0 → ((x : Float) → List·Memᴰ x (s .points) → F64 x)
       → (ps : List Float) (cs : List ℕ) → length (s .points) ≤ length ps → length (s .corners) ≤ length cs
