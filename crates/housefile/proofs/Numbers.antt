@@ -7,7 +7,7 @@ use native.Mathlib.Nat.{mod-lt, mod-add-div}
 use native.Mathlib.Omega.{arith}
 use lib.Dec.{lit<}
 use lib.ListN.{length, take, drop, length-drop}
-use lib.Seq.{take-append-le, drop-append-le, length-take-le}
+use lib.Seq.{take-at, drop-at, take-append-le, drop-append-le, length-take-le}
 use lib.Ieee.{Float, binary64, ofBits, toBits, isNan}
 use lib.Ieee.Bits.{ofBits-toBits, toBits-lt, ofBits-fits, toBits-ofBits}
 use Rattle.sums.proofs.Sums.{All, all-take, all-drop}
@@ -59,6 +59,12 @@ part-front i n bs rest h =
 pub length-part : (i n : ℕ) (bs : List ℕ) → i + n ≤ length bs → length (take n (drop i bs)) ≡ n
 length-part i n bs h = length-take-le n (drop i bs) (rw length-drop (omega arith))
 
+-- a number's bytes, with anything in front and behind
+pub number-there : (i n k : ℕ) (front rest : List ℕ) → length front ≡ i → k < 256 ^ n → number-at i n (front ++ (bytes n k ++ rest)) ≡ k
+unfolding number-at
+number-there i n k front rest l h =
+    ap number (ap (take n) (drop-at front (bytes n k ++ rest) i l) ∙ take-at (bytes n k) rest n (length-bytes n k)) ∙ number-bytes n k h
+
 pub number-front : (i n : ℕ) (bs rest : List ℕ) → i + n ≤ length bs → number-at i n (bs ++ rest) ≡ number-at i n bs
 unfolding number-at
 number-front i n bs rest h = ap number (part-front i n bs rest h)
@@ -89,9 +95,10 @@ unfolding float-bytes
 all-float-bytes x = all-bytes 8 _
 
 -- Reading an f64's bytes gives the f64, sign of zero and all. Of the NaN too, of which there is one.
-pub float-back : (x : Float) → F64 x → ofBits binary64 (number (float-bytes x)) ≡ x
-unfolding float-bytes
-float-back x h = ap (ofBits binary64) (number-bytes 8 (toBits binary64 x) (toBits-lt binary64 x h)) ∙ ofBits-toBits binary64 x h
+pub float-there : (i : ℕ) (x : Float) (front rest : List ℕ) → length front ≡ i → F64 x → float-at i (front ++ (float-bytes x ++ rest)) ≡ x
+unfolding float-at float-bytes
+float-there i x front rest l h =
+    ap (ofBits binary64) (number-there i 8 (toBits binary64 x) front rest l (toBits-lt binary64 x h)) ∙ ofBits-toBits binary64 x h
 
 pub float-fits : (i : ℕ) (bs : List ℕ) → F64 (float-at i bs)
 unfolding float-at

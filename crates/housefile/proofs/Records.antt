@@ -7,8 +7,8 @@ use Prim.Native.Nat.{ℕ, _+_, _^_, _<_, _≤_}
 use native.Mathlib.Omega.{arith}
 use lib.Dec.{leb, eqb}
 use lib.ListN.{length, take, drop, length-append, take-append-drop}
-use lib.Seq.{take-at, drop-at, take-add, drop-drop, length-take-le}
-use lib.Ieee.{Float, binary64, ofBits, isNan}
+use lib.Seq.{drop-at, take-add, length-take-le}
+use lib.Ieee.{Float, isNan}
 use borrow.Author.Tests.{leb-true, eqb-true, le-leb, eq-eqb}
 use Rattle.sums.proofs.Sums.{All}
 use Rattle.sums.proofs.Tests.{and-true}
@@ -19,7 +19,7 @@ use Rattle.housefile.specs.declared.Record.the-variants.{Vx, Fc, En, Fau
 use Rattle.housefile.specs.Numbers.{number, number-at, float-at, bytes, float-bytes}
 use Rattle.housefile.specs.Records.{mark-VX, mark-FC, mark-EN, size, decoded, encoded}
 use Rattle.housefile.specs.RoundTrip.{Byte, F64}
-use Rattle.housefile.proofs.Numbers.{length-bytes, number-bytes, number-front, float-front, number-at-lt, bytes-at, length-float-bytes, float-back, float-fits, float-bytes-at}
+use Rattle.housefile.proofs.Numbers.{length-bytes, number-front, float-front, number-at-lt, bytes-at, length-float-bytes, number-there, float-there, float-fits, float-bytes-at}
 
 -- ---- "`VX`", "`FC`", "`EN`": the marks are these letters
 pub letters : (mark-VX ≡ code "V" ∷ code "X" ∷ []) × (mark-FC ≡ code "F" ∷ code "C" ∷ []) × (mark-EN ≡ code "E" ∷ code "N" ∷ [])
@@ -47,42 +47,6 @@ Present (Vx v) = All (λ x. isNan x ≡ false) (coordinates v)
 Present (Fc p q r) = Unit {0}
 Present En = Unit {0}
 Present Fault = Unit {0}
-
--- ---- a mark and three parts of k bytes
-abbrev joined : List ℕ → List ℕ → List ℕ → List ℕ → List ℕ → List ℕ
-joined m a b c rest = m ++ (a ++ (b ++ (c ++ rest)))
-
-module _ (m a b c rest : List ℕ) (k : ℕ) (lm : length m ≡ 2) (la : length a ≡ k) (lb : length b ≡ k) (lc : length c ≡ k) where
-  abbrev all : List ℕ
-  all = joined m a b c rest
-
-  length-joined : length all ≡ 2 + k + k + k + length rest
-  length-joined = simp length-append (omega arith)
-
-  behind-mark : drop 2 all ≡ a ++ (b ++ (c ++ rest))
-  behind-mark = drop-at m _ 2 lm
-
-  behind-first : drop (2 + k) all ≡ b ++ (c ++ rest)
-  behind-first = sym (drop-drop k 2 all) ∙ ap (drop k) behind-mark ∙ drop-at a _ k la
-
-  behind-second : drop (2 + k + k) all ≡ c ++ rest
-  behind-second = sym (drop-drop k (2 + k) all) ∙ ap (drop k) behind-first ∙ drop-at b _ k lb
-
-  first-part : take k (drop 2 all) ≡ a
-  first-part = ap (take k) behind-mark ∙ take-at a _ k la
-
-  second-part : take k (drop (2 + k) all) ≡ b
-  second-part = ap (take k) behind-first ∙ take-at b _ k lb
-
-  third-part : take k (drop (2 + k + k) all) ≡ c
-  third-part = ap (take k) behind-second ∙ take-at c _ k lc
-
-parts : (k : ℕ) (bs : List ℕ)
-    → take (2 + k + k + k) bs ≡ take 2 bs ++ (take k (drop 2 bs) ++ (take k (drop (2 + k) bs) ++ take k (drop (2 + k + k) bs)))
-parts k bs =
-    take-add (2 + k + k) k bs
-    ∙ ap (λ l. l ++ take k (drop (2 + k + k) bs)) (take-add (2 + k) k bs ∙ ap (λ l. l ++ take k (drop (2 + k) bs)) (take-add 2 k bs))
-    ∙ simp append-assoc
 
 -- ---- what decoding looks at
 abbrev pub vertex-at : List ℕ → Point
@@ -194,62 +158,50 @@ length-encoded Fault = refl
 pub behind-encoded : (r : Record) (rest : List ℕ) → drop (size r) (encoded r ++ rest) ≡ rest
 behind-encoded r rest = drop-at (encoded r) rest (size r) (length-encoded r)
 
--- the bytes of a record with three parts, and behind them the rest
-vx-bytes : (v : Point) (rest : List ℕ) → encoded (Vx v) ++ rest ≡ joined mark-VX (float-bytes (v .x)) (float-bytes (v .y)) (float-bytes (v .z)) rest
+room : (r : Record) (rest : List ℕ) → size r ≤ length (encoded r ++ rest)
+room r rest = rw (length-append, length-encoded r) (omega arith)
+
+-- the bytes of a mark and three parts, and behind them the rest
+vx-bytes : (v : Point) (rest : List ℕ)
+    → encoded (Vx v) ++ rest ≡ mark-VX ++ (float-bytes (v .x) ++ (float-bytes (v .y) ++ (float-bytes (v .z) ++ rest)))
 unfolding encoded flatMap
 vx-bytes v rest = simp append-assoc
 
-fc-bytes : (p q r : ℕ) (rest : List ℕ) → encoded (Fc p q r) ++ rest ≡ joined mark-FC (bytes 4 p) (bytes 4 q) (bytes 4 r) rest
+fc-bytes : (p q r : ℕ) (rest : List ℕ) → encoded (Fc p q r) ++ rest ≡ mark-FC ++ (bytes 4 p ++ (bytes 4 q ++ (bytes 4 r ++ rest)))
 unfolding encoded
 fc-bytes p q r rest = simp append-assoc
 
-float-of : (x : Float) (l : List ℕ) → F64 x → l ≡ float-bytes x → x ≡ ofBits binary64 (number l)
-float-of x l h e = sym (ap (λ l. ofBits binary64 (number l)) e ∙ float-back x h)
-
-number-of : (k : ℕ) (l : List ℕ) → k < 256 ^ 4 → l ≡ bytes 4 k → k ≡ number l
-number-of k l h e = sym (ap number e ∙ number-bytes 4 k h)
-
-vx-begins : (v : Point) → All F64 (coordinates v) → (rest : List ℕ)
-    → Begins (joined mark-VX (float-bytes (v .x)) (float-bytes (v .y)) (float-bytes (v .z)) rest) (Vx v)
-unfolding number-at float-at
-vx-begins v (hx, (hy, (hz, end))) rest =
-    let lx = length-float-bytes (v .x) in
-    let ly = length-float-bytes (v .y) in
-    let lz = length-float-bytes (v .z) in
+vx-there : (v : Point) → All F64 (coordinates v) → (rest : List ℕ) → vertex-at (encoded (Vx v) ++ rest) ≡ v
+vx-there v (hx, (hy, (hz, end))) rest =
     let X = float-bytes (v .x) in
     let Y = float-bytes (v .y) in
-    let Z = float-bytes (v .z) in (
-      refl,
-      rw (length-joined mark-VX X Y Z rest 8 refl lx ly lz) (omega arith),
-      λ i. record {
-        x = float-of (v .x) _ hx (first-part mark-VX X Y Z rest 8 refl lx ly lz) i;
-        y = float-of (v .y) _ hy (second-part mark-VX X Y Z rest 8 refl lx ly lz) i;
-        z = float-of (v .z) _ hz (third-part mark-VX X Y Z rest 8 refl lx ly lz) i;
-      },
-    )
+    let Z = float-bytes (v .z) in
+    let x = float-there 2 (v .x) mark-VX (Y ++ (Z ++ rest)) refl hx in
+    let y = float-there 10 (v .y) (mark-VX ++ X) (Z ++ rest) (simp length-float-bytes) hy in
+    let z = float-there 18 (v .z) (mark-VX ++ (X ++ Y)) rest (simp (length-append, length-float-bytes)) hz in
+    let regroup = ap (λ l. float-at 18 (mark-VX ++ l)) (sym (append-assoc X Y (Z ++ rest))) in
+    ap vertex-at (vx-bytes v rest) ∙ (λ i. record { x = x i; y = y i; z = (regroup ∙ z) i })
 
-fc-begins : (p q r : ℕ) → All (λ k. k < 256 ^ 4) (p ∷ q ∷ r ∷ [])
-    → (rest : List ℕ) → Begins (joined mark-FC (bytes 4 p) (bytes 4 q) (bytes 4 r) rest) (Fc p q r)
-unfolding number-at
-fc-begins p q r (hp, (hq, (hr, end))) rest =
-    let lp = length-bytes 4 p in
-    let lq = length-bytes 4 q in
-    let lr = length-bytes 4 r in
+fc-there : (p q r : ℕ) → All (λ k. k < 256 ^ 4) (p ∷ q ∷ r ∷ []) → (rest : List ℕ)
+    → let bs = encoded (Fc p q r) ++ rest in (number-at 2 4 bs ≡ p) × (number-at 6 4 bs ≡ q) × (number-at 10 4 bs ≡ r)
+fc-there p q r (hp, (hq, (hr, end))) rest =
     let P = bytes 4 p in
     let Q = bytes 4 q in
-    let R = bytes 4 r in (
-      refl,
-      rw (length-joined mark-FC P Q R rest 4 refl lp lq lr) (omega arith),
-      number-of p _ hp (first-part mark-FC P Q R rest 4 refl lp lq lr),
-      number-of q _ hq (second-part mark-FC P Q R rest 4 refl lp lq lr),
-      number-of r _ hr (third-part mark-FC P Q R rest 4 refl lp lq lr),
+    let R = bytes 4 r in
+    let regroup = ap (λ l. number-at 10 4 (mark-FC ++ l)) (sym (append-assoc P Q (R ++ rest))) in
+    rw (fc-bytes p q r rest) (
+      number-there 2 4 p mark-FC (Q ++ (R ++ rest)) refl hp,
+      number-there 6 4 q (mark-FC ++ P) (R ++ rest) (simp length-bytes) hq,
+      regroup ∙ number-there 10 4 r (mark-FC ++ (P ++ Q)) rest (simp (length-append, length-bytes)) hr,
     )
 
 encoded-begins : (r : Record) → Storable r → (rest : List ℕ) → Begins (encoded r ++ rest) r
 unfolding encoded number-at
-encoded-begins (Vx v) h rest = subst (λ l. Begins l (Vx v)) (sym (vx-bytes v rest)) (vx-begins v h rest)
-encoded-begins (Fc p q r) h rest = subst (λ l. Begins l (Fc p q r)) (sym (fc-bytes p q r rest)) (fc-begins p q r h rest)
-encoded-begins En h rest = (refl, omega arith)
+encoded-begins (Vx v) h rest = (refl, room (Vx v) rest, sym (vx-there v h rest))
+encoded-begins (Fc p q r) h rest =
+    let (ep, eq, er) = fc-there p q r h rest in
+    (refl, room (Fc p q r) rest, sym ep, sym eq, sym er)
+encoded-begins En h rest = (refl, room En rest)
 encoded-begins Fault h rest = tt
 
 storable-known : (r : Record) → Storable r → Known r
@@ -262,6 +214,15 @@ pub decoded-encoded : (r : Record) → Storable r → (rest : List ℕ) → deco
 decoded-encoded r h rest = begins-decoded (encoded r ++ rest) r (storable-known r h) (encoded-begins r h rest)
 
 -- ---- and back
+
+-- a mark and three parts of k bytes
+parts : (k : ℕ) (bs : List ℕ)
+    → take (2 + k + k + k) bs ≡ take 2 bs ++ (take k (drop 2 bs) ++ (take k (drop (2 + k) bs) ++ take k (drop (2 + k + k) bs)))
+parts k bs =
+    take-add (2 + k + k) k bs
+    ∙ ap (λ l. l ++ take k (drop (2 + k + k) bs)) (take-add (2 + k) k bs ∙ ap (λ l. l ++ take k (drop (2 + k) bs)) (take-add 2 k bs))
+    ∙ simp append-assoc
+
 module _ (bs : List ℕ) (all : All Byte bs) where
   -- the two bytes of a mark
   mark-at : (mark : List ℕ) → bytes 2 (number mark) ≡ mark → number-at 0 2 bs ≡ number mark → 2 ≤ length bs → take 2 bs ≡ mark
