@@ -5,12 +5,12 @@ use mathlib.Core.List.{List, [], _∷_, _++_, flatMap, append-nil, append-assoc}
 use Prim.Native.Char.{code}
 use Prim.Native.Nat.{ℕ, _+_, _^_, _<_, _≤_}
 use native.Mathlib.Omega.{arith}
-use lib.Dec.{leb, eqb}
+use lib.Dec.{leb, eqb, lit<}
 use lib.ListN.{length, take, drop, length-append, take-append-drop}
 use lib.Seq.{drop-at, take-add, length-take-le}
 use lib.Ieee.{Float, isNan}
 use borrow.Author.Tests.{leb-true, eqb-true, le-leb, eq-eqb}
-use Rattle.sums.proofs.Sums.{All}
+use Rattle.sums.proofs.Sums.{All, all-++, all-flatMap}
 use Rattle.sums.proofs.Tests.{and-true}
 use Rattle.points.specs.declared.Point.{Point}
 use Rattle.points.specs.Points.{coordinates}
@@ -19,7 +19,7 @@ use Rattle.housefile.specs.declared.Record.the-variants.{Vx, Fc, En, Fau
 use Rattle.housefile.specs.Numbers.{number, number-at, float-at, bytes, float-bytes}
 use Rattle.housefile.specs.Records.{mark-VX, mark-FC, mark-EN, size, decoded, encoded}
 use Rattle.housefile.specs.RoundTrip.{Byte, F64}
-use Rattle.housefile.proofs.Numbers.{length-bytes, number-front, float-front, number-at-lt, bytes-at, length-float-bytes, number-there, float-there, float-fits, float-bytes-at}
+use Rattle.housefile.proofs.Numbers.{length-bytes, all-bytes, all-float-bytes, number-front, float-front, number-at-lt, bytes-at, length-float-bytes, number-there, float-there, float-fits, float-bytes-at}
 
 -- ---- "`VX`", "`FC`", "`EN`": the marks are these letters
 pub letters : (mark-VX ≡ code "V" ∷ code "X" ∷ []) × (mark-FC ≡ code "F" ∷ code "C" ∷ []) × (mark-EN ≡ code "E" ∷ code "N" ∷ [])
@@ -154,6 +154,15 @@ length-encoded (Vx v) = simp (length-append, length-float-bytes)
 length-encoded (Fc p q r) = simp (length-append, length-bytes)
 length-encoded En = refl
 length-encoded Fault = refl
+
+pub all-encoded : (r : Record) → All Byte (encoded r)
+unfolding encoded
+all-encoded (Vx v) =
+    (lit< tt, (lit< tt, all-flatMap Byte float-bytes (coordinates v) (all-float-bytes (v .x), (all-float-bytes (v .y), (all-float-bytes (v .z), tt)))))
+all-encoded (Fc p q r) =
+    (lit< tt, (lit< tt, all-++ Byte (bytes 4 p) (bytes 4 q ++ bytes 4 r) (all-bytes 4 p) (all-++ Byte (bytes 4 q) (bytes 4 r) (all-bytes 4 q) (all-bytes 4 r))))
+all-encoded En = (lit< tt, (lit< tt, tt))
+all-encoded Fault = tt
 
 pub behind-encoded : (r : Record) (rest : List ℕ) → drop (size r) (encoded r ++ rest) ≡ rest
 behind-encoded r rest = drop-at (encoded r) rest (size r) (length-encoded r)

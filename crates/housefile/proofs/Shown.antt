@@ -6,7 +6,8 @@ use native.Mathlib.Omega.{arith}
 use lib.ListN.{length, getD}
 use lib.Ieee.{Float}
 use Rattle.sums.specs.Lists.{upTo}
-use Rattle.sums.proofs.Sums.{All, all-of-flatMap}
+use Rattle.sums.proofs.Sums.{All, all-++, all-flatMap, all-of-flatMap}
+use Rattle.sums.proofs.UpTo.{all-upTo}
 use Rattle.sums.proofs.Threes.{in-threes, third-threes, rest-threes, flat-threes}
 use Rattle.points.specs.declared.Point.{Point}
 use Rattle.points.specs.declared.Axis.the-variants.{X, Y, Z}
@@ -16,11 +17,12 @@ use Rattle.solids.specs.Solids.{Solid, vertices, facets, vertex, corner}
 use Rattle.solids.specs.Admission.{admission}
 use Rattle.solids.proofs.Admitted.{Proper, Passed, passed}
 use Rattle.solids.proofs.Laid.{laid-whole, laid-facets, each-laid}
+use Rattle.housefile.specs.declared.Record.{Record}
 use Rattle.housefile.specs.declared.Record.the-variants.{Vx, Fc, En}
 use Rattle.housefile.specs.Records.{encoded}
 use Rattle.housefile.specs.Writer.{file}
-use Rattle.housefile.specs.RoundTrip.{F64}
-use Rattle.housefile.proofs.Records.{Storable}
+use Rattle.housefile.specs.RoundTrip.{Byte, F64}
+use Rattle.housefile.proofs.Records.{Storable, all-encoded}
 use Rattle.housefile.proofs.Grammar.{Three, corners-of, facet-record}
 use Rattle.housefile.proofs.Files.{file-of, length-file-of}
 
@@ -84,12 +86,27 @@ module _ (s : Solid) (vs : List Point) (fs : List Three) (h : Shows s vs fs) whe
           ap (λ l. flatMap (λ i. fc (getD l (3 * i + 0) 0) (getD l (3 * i + 1) 0) (getD l (3 * i + 2) 0)) (upTo (length l / 3))) (h .corners)
           ∙ flat-threes c0 c1 c2 fs 0 (λ i. 3 * i + 0) first fc
 
--- ---- how long a solid's file is
+-- ---- how long a solid's file is, and that it is bytes
 pub length-file : (s : Solid) → length (s .points) % 3 ≡ 0 → length (s .corners) % 3 ≡ 0 → length (file s) ≡ 26 * vertices s + 14 * facets s + 2
 length-file s p c =
     let (vs, fs, h) = shown s p c in
     ap length (shown-file s vs fs h) ∙ length-file-of vs fs
     ∙ ap₂ (λ n m. 26 * n + 14 * m + 2) (sym (shown-vertices s vs fs h)) (sym (shown-facets s vs fs h))
+
+all-run : (r : ℕ → Record) (n : ℕ) (rest : List ℕ) → All Byte rest → All Byte (flatMap (λ i. encoded (r i)) (upTo n) ++ rest)
+all-run r n rest a =
+    all-++ Byte (flatMap (λ i. encoded (r i)) (upTo n)) rest
+    (all-flatMap Byte (λ i. encoded (r i)) (upTo n) (all-upTo (λ i. All Byte (encoded (r i))) n (λ i l. all-encoded (r i)))) a
+
+pub all-file : (s : Solid) → All Byte (file s)
+unfolding file
+all-file s = all-run (λ i. Vx (vertex s i)) (vertices s) facet-part (all-run facet (facets s) (encoded En) (all-encoded En))
+  where
+    facet : ℕ → Record
+    facet f = Fc (corner s f 0) (corner s f 1) (corner s f 2)
+
+    facet-part : List ℕ
+    facet-part = flatMap (λ f. encoded (facet f)) (upTo (facets s)) ++ encoded En
 
 -- ---- an admitted solid can be written
 module _ (s : Solid) (vs : List Point) (fs : List Three) (h : Shows s vs fs) where
