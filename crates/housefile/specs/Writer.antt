@@ -21,9 +21,12 @@ pub record Writing : Type 0 where
   pub used : ℕ
   pub bytes : List ℕ
 
+abbrev pub unwritten : ℕ → List ℕ → Writing
+unwritten n old = record { answer = n; used = 0; bytes = old }
+
 abbrev pub writing : Verdict → List ℕ → List ℕ → Writing
 writing accepted new old = record { answer = 0; used = length new; bytes = onto new old }
-writing (refused n) new old = record { answer = n; used = 0; bytes = old }
+writing (refused n) new old = unwritten n old
 
 -- "The writer checks 1 to 6, then 8."
 unfoldable pub write : Solid → List ℕ → Writing

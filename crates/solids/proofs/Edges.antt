@@ -147,7 +147,7 @@ listed-next es ends numbers k p q hp hq early l =
           let r = l .room in
           let m = l .many in
           let w : 2 * length (es ++ ((p, q) ∷ [])) ≡ suc (2 * k + 1) = omega arith in
-        ap (λ i. take i (set (set ends (2 * k) p) (2 * k + 1) q)) w
+          ap (λ i. take i (set (set ends (2 * k) p) (2 * k + 1) q)) w
           ∙ take-suc-set (set ends (2 * k) p) (2 * k + 1) q (rw (length-set ends (2 * k) p) (omega arith))
           ∙ ap (λ f. f ++ (q ∷ [])) (ap (λ i. take i (set ends (2 * k) p)) (add-one (2 * k)) ∙ take-suc-set ends (2 * k) p (omega arith))
           ∙ ap (λ f. (f ++ (p ∷ [])) ++ (q ∷ [])) (ap (λ i. take (2 * i) ends) m ∙ l .front (omega arith))

@@ -5,7 +5,7 @@ use mathlib.Core.Bool.{Bool, true, false, cond}
 use Prim.Native.Nat.{ℕ, zero, suc, _*_, _<_}
 use native.Mathlib.Nat.{zero-mul}
 use native.Mathlib.Omega.{arith}
-use lib.ListN.{length, getD}
+use lib.ListN.{length, getD, take, drop}
 use lib.IntN.{ℤ, pos, _+ℤ_, _-ℤ_, _*ℤ_, negℤ, negℤ-+ℤ, +ℤ-idl, +ℤ-idr, +ℤ-assoc, *ℤ-zero}
 use Rattle.sums.specs.Lists.{sumOf, keep}
 use Rattle.sums.proofs.Integers.{regroup, mul-add, Bnd, bnd-add, bnd-zero}
@@ -31,6 +31,10 @@ module _ {A : Type 0} where
   all-++ p [] t a b = b
   all-++ p (x ∷ s) t a b = (a .0, all-++ p s t (a .1) b)
 
+  pub all-of-++ : (p : A → Type 0) (s t : List A) → All p (s ++ t) → All p s × All p t
+  all-of-++ p [] t a = (tt, a)
+  all-of-++ p (x ∷ s) t a = let (b, c) = all-of-++ p s t (a .1) in ((a .0, b), c)
+
   pub all-both : (p q : A → Type 0) (l : List A) → All p l → All q l → All (λ x. p x × q x) l
   all-both p q [] a b = tt
   all-both p q (x ∷ l) a b = ((a .0, b .0), all-both p q l (a .1) (b .1))
@@ -40,6 +44,16 @@ module _ {A : Type 0} where
   getD-within [] i d e h = absurd (omega arith)
   getD-within (x ∷ l) zero d e h = refl
   getD-within (x ∷ l) (suc i) d e h = getD-within l i d e (omega arith)
+
+  pub all-take : (p : A → Type 0) (n : ℕ) (l : List A) → All p l → All p (take n l)
+  all-take p zero l a = tt
+  all-take p (suc n) [] a = tt
+  all-take p (suc n) (x ∷ l) a = (a .0, all-take p n l (a .1))
+
+  pub all-drop : (p : A → Type 0) (n : ℕ) (l : List A) → All p l → All p (drop n l)
+  all-drop p zero l a = a
+  all-drop p (suc n) [] a = tt
+  all-drop p (suc n) (x ∷ l) a = all-drop p n l (a .1)
 
 module _ {A B : Type 0} where
   pub mem-flatMap : (f : A → List B) {x : A} {y : B} {l : List A} → List·Memᴰ x l → List·Memᴰ y (f x) → List·Memᴰ y (flatMap f l)
@@ -59,6 +73,11 @@ module _ {A B : Type 0} where
   unfolding flatMap
   all-flatMap p f [] a = tt
   all-flatMap p f (x ∷ l) a = all-++ p (f x) (flatMap f l) (a .0) (all-flatMap p f l (a .1))
+
+  pub all-of-flatMap : (p : B → Type 0) (f : A → List B) (l : List A) → All p (flatMap f l) → All (λ x. All p (f x)) l
+  unfolding flatMap
+  all-of-flatMap p f [] a = tt
+  all-of-flatMap p f (x ∷ l) a = let (b, c) = all-of-++ p (f x) (flatMap f l) a in (b, all-of-flatMap p f l c)
 
 -- ---- lists put together
 module _ {A B : Type 0} where

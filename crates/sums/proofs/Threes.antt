@@ -2,7 +2,7 @@
 -- so that what runs over the numbers of the threes runs over the threes themselves.
 use mathlib.Core.Path.{_≡_, refl, sym, ap, _∙_, subst}
 use mathlib.Core.Bool.{Bool}
-use mathlib.Core.List.{List, [], _∷_, map, flatMap, map-map}
+use mathlib.Core.List.{List, [], _∷_, _++_, map, flatMap, map-map}
 use Prim.Native.Nat.{ℕ, zero, suc, _+_, _*_, _/_, _%_, _<_}
 use native.Mathlib.Omega.{arith}
 use lib.ListN.{length, getD}
@@ -29,6 +29,17 @@ module _ {A B : Type 0} (f g h : B → A) where
 
   pub rest-threes : (ts : List B) → length (threes ts) % 3 ≡ 0
   rest-threes ts = omega (arith, length-threes ts)
+
+  -- every list of whole threes is one; `make` puts three together, and f, g, h take it apart
+  pub in-threes : (make : A → A → A → B) → ((a b c : A) → threes (make a b c ∷ []) ≡ a ∷ b ∷ c ∷ [])
+      → (l : List A) → length l % 3 ≡ 0 → (ts : List B) × (l ≡ threes ts)
+  unfolding flatMap
+  in-threes make apart [] e = ([], refl)
+  in-threes make apart (a ∷ []) e = absurd (omega arith)
+  in-threes make apart (a ∷ b ∷ []) e = absurd (omega arith)
+  in-threes make apart (a ∷ b ∷ c ∷ l) e =
+      let (ts, r) = in-threes make apart l (omega arith) in
+      (make a b c ∷ ts, ap (λ k. a ∷ b ∷ c ∷ k) r ∙ ap (λ k. k ++ threes ts) (sym (apart a b c)))
 
   next : (t : B) (ts : List B) (d : A) (i k : ℕ) → getD (threes (t ∷ ts)) (3 * suc i + k) d ≡ getD (threes ts) (3 * i + k) d
   unfolding flatMap

@@ -1,0 +1,211 @@
+-- "Reader's order: 9, then 2, 8, 3 to 6." and "The writer checks 1 to 6, then 8.": what `read` and `write` give, refusal by refusal, whatever else is
+-- wrong. Then that a refusal gives zero counts and the lent lists as they were, and what answer 0 says.
+use mathlib.Core.Path.{_≡_, refl, ap, _∙_}
+use mathlib.Core.Logic.{_≢_}
+use mathlib.Core.Bool.{Bool, true, false}
+use mathlib.Core.List.{List, [], _∷_}
+use Prim.Native.Nat.{ℕ, suc, _<_, _≤_}
+use native.Mathlib.Omega.{arith}
+use lib.ListN.{length}
+use lib.Dec.{ltb}
+use lib.Ieee.{Float, isNan}
+use borrow.Author.Tests.{lt-ltb, le-ltb, ltb-false}
+use Rattle.sums.specs.Lists.{upTo, any, onto}
+use Rattle.sums.proofs.Sums.{All}
+use Rattle.sums.proofs.Tests.{or-false}
+use Rattle.solids.specs.Refusals.{Verdict, accepted, refused, answer, given, in-order}
+use Rattle.solids.specs.Solids.{Solid, vertices, facets, half-edges, pairs}
+use Rattle.solids.specs.Admission.{uneven, too-many, beyond, faulty, differ}
+use Rattle.solids.specs.Admission.{check-lengths, check-sizes, check-blanks, check-limit, check-corners, check-closure, admission}
+use Rattle.solids.proofs.Orders.{all-accepted, accepted-all, not-given}
+use Rattle.housefile.specs.Reader.{Layout, Reading, fault, laid, layout, unread, reading, too-short, read-solid, by-layout, read}
+use Rattle.housefile.specs.Writer.{file, unwritten, writing, write}
+
+-- ---- the reader
+module _ (bs : List ℕ) (ps : List Float) (cs : List ℕ) where
+  pub read-first-9 : layout bs ≡ fault → read bs ps cs ≡ unread 9 ps cs
+  unfolding read
+  read-first-9 e = rw e
+
+  module _ (used : ℕ) (s : Solid) (follows : layout bs ≡ laid used (s .points) (s .corners)) where
+    pub read-checked : read bs ps cs ≡ reading (read-solid s ps cs) used s ps cs
+    unfolding read
+    read-checked = ap (λ l. by-layout l ps cs) follows
+
+    pub read-then-2 : too-many s ≡ true → read bs ps cs ≡ unread 2 ps cs
+    unfolding read-solid in-order check-sizes
+    read-then-2 e = read-checked ∙ rw e
+
+    module _ (no-2 : too-many s ≡ false) where
+      pub read-then-8 : too-short ps cs s ≡ true → read bs ps cs ≡ unread 8 ps cs
+      unfolding read-solid in-order check-sizes
+      read-then-8 e = read-checked ∙ rw (no-2, e)
+
+      module _ (no-8 : too-short ps cs s ≡ false) where
+        pub read-then-3 : any isNan (s .points) ≡ true → read bs ps cs ≡ unread 3 ps cs
+        unfolding read-solid in-order check-sizes check-blanks
+        read-then-3 e = read-checked ∙ rw (no-2, no-8, e)
+
+        module _ (no-3 : any isNan (s .points) ≡ false) where
+          pub read-then-4 : any beyond (s .points) ≡ true → read bs ps cs ≡ unread 4 ps cs
+          unfolding read-solid in-order check-sizes check-blanks check-limit
+          read-then-4 e = read-checked ∙ rw (no-2, no-8, no-3, e)
+
+          module _ (no-4 : any beyond (s .points) ≡ false) where
+            pub read-then-5 : any (faulty s) (upTo (facets s)) ≡ true → read bs ps cs ≡ unread 5 ps cs
+            unfolding read-solid in-order check-sizes check-blanks check-limit check-corners
+            read-then-5 e = read-checked ∙ rw (no-2, no-8, no-3, no-4, e)
+
+            module _ (no-5 : any (faulty s) (upTo (facets s)) ≡ false) where
+              pub read-then-6 : any (differ (half-edges s)) (pairs (vertices s)) ≡ true → read bs ps cs ≡ unread 6 ps cs
+              unfolding read-solid in-order check-sizes check-blanks check-limit check-corners check-closure
+              read-then-6 e = read-checked ∙ rw (no-2, no-8, no-3, no-4, no-5, e)
+
+              pub read-else : any (differ (half-edges s)) (pairs (vertices s)) ≡ false
+                  → read bs ps cs
+                  ≡ record {
+                    answer = 0;
+                    vertices = vertices s;
+                    facets = facets s;
+                    used = used;
+                    points = onto (s .points) ps;
+                    corners = onto (s .corners) cs;
+                  }
+              unfolding read-solid in-order check-sizes check-blanks check-limit check-corners check-closure
+              read-else e = read-checked ∙ rw (no-2, no-8, no-3, no-4, no-5, e)
+
+-- ---- the writer
+module _ (s : Solid) (lent : List ℕ) where
+  pub write-first : (n : ℕ) → admission s ≡ refused n → write s lent ≡ unwritten n lent
+  unfolding write in-order
+  write-first n e = rw e
+
+  module _ (fine : admission s ≡ accepted) where
+    pub write-then-8 : length lent < length (file s) → write s lent ≡ unwritten 8 lent
+    unfolding write in-order
+    write-then-8 h = rw (fine, lt-ltb (length lent) (length (file s)) h)
+
+    pub write-else : length (file s) ≤ length lent → write s lent ≡ record { answer = 0; used = length (file s); bytes = onto (file s) lent }
+    unfolding write in-order
+    write-else h = rw (fine, le-ltb (length lent) (length (file s)) h)
+
+-- ---- a refusal gives zero counts and the lent lists as they were
+pub read-refusal : (bs : List ℕ) (ps : List Float) (cs : List ℕ) → (read bs ps cs) .answer ≢ 0
+    → read bs ps cs ≡ record { answer = (read bs ps cs) .answer; vertices = 0; facets = 0; used = 0; points = ps; corners = cs }
+unfolding read
+read-refusal bs ps cs = by-case (layout bs)
+  where
+    Plain : Reading → Type 0
+    Plain r = r ≡ record { answer = r .answer; vertices = 0; facets = 0; used = 0; points = ps; corners = cs }
+
+    checked : (v : Verdict) (used : ℕ) (s : Solid) → (reading v used s ps cs) .answer ≢ 0 → Plain (reading v used s ps cs)
+    checked accepted used s d = absurd (d refl)
+    checked (refused n) used s d = refl
+
+    by-case : (l : Layout) → (by-layout l ps cs) .answer ≢ 0 → Plain (by-layout l ps cs)
+    by-case fault d = refl
+    by-case (laid used xs ds) d = let s : Solid = record { points = xs; corners = ds } in checked (read-solid s ps cs) used s d
+
+pub write-refusal : (s : Solid) (lent : List ℕ) → (write s lent) .answer ≢ 0
+    → write s lent ≡ record { answer = (write s lent) .answer; used = 0; bytes = lent }
+unfolding write
+write-refusal s lent = by-case (in-order (admission s ∷ given 8 (ltb (length lent) (length (file s))) ∷ []))
+  where
+    by-case : (v : Verdict) → (writing v (file s) lent) .answer ≢ 0
+        → writing v (file s) lent ≡ record { answer = (writing v (file s) lent) .answer; used = 0; bytes = lent }
+    by-case accepted d = absurd (d refl)
+    by-case (refused n) d = refl
+
+-- ---- answer 0 is success: no check refuses with the number 0
+abbrev Numbered : Verdict → Type 0
+Numbered v = answer v ≡ 0 → v ≡ accepted
+
+in-order-numbered : (vs : List Verdict) → All Numbered vs → Numbered (in-order vs)
+unfolding in-order
+in-order-numbered [] a e = refl
+in-order-numbered (accepted ∷ vs) a e = in-order-numbered vs (a .1) e
+in-order-numbered (refused n ∷ vs) a e = a .0 e
+
+given-numbered : (n : ℕ) (b : Bool) → Numbered (given (suc n) b)
+given-numbered n true e = absurd (omega arith)
+given-numbered n false e = refl
+
+module _ (s : Solid) where
+  later-checks : List Verdict
+  later-checks = check-blanks (s .points) ∷ check-limit (s .points) ∷ check-corners s ∷ check-closure s ∷ []
+
+  later-numbered : All Numbered later-checks
+  unfolding later-checks check-blanks check-limit check-corners check-closure
+  later-numbered = (
+    given-numbered 2 (any isNan (s .points)),
+    (
+      given-numbered 3 (any beyond (s .points)),
+      (given-numbered 4 (any (faulty s) (upTo (facets s))), (given-numbered 5 (any (differ (half-edges s)) (pairs (vertices s))), tt)),
+    ),
+  )
+
+  admission-numbered : Numbered (admission s)
+  unfolding admission check-lengths check-sizes later-checks
+  admission-numbered =
+      in-order-numbered (check-lengths s ∷ check-sizes s ∷ later-checks)
+      (given-numbered 0 (uneven s), (given-numbered 1 (too-many s), later-numbered))
+
+  read-solid-numbered : (ps : List Float) (cs : List ℕ) → Numbered (read-solid s ps cs)
+  unfolding read-solid check-sizes later-checks
+  read-solid-numbered ps cs =
+      in-order-numbered (check-sizes s ∷ given 8 (too-short ps cs s) ∷ later-checks)
+      (given-numbered 1 (too-many s), (given-numbered 7 (too-short ps cs s), later-numbered))
+
+pub read-success : (bs : List ℕ) (ps : List Float) (cs : List ℕ) → (read bs ps cs) .answer ≡ 0
+    → (used : ℕ) × (s : Solid) × (layout bs ≡ laid used (s .points) (s .corners)) × (read-solid s ps cs ≡ accepted)
+unfolding read
+read-success bs ps cs = by-case (layout bs)
+  where
+    checked : (v : Verdict) (used : ℕ) (s : Solid) → (reading v used s ps cs) .answer ≡ 0 → answer v ≡ 0
+    checked accepted used s e = refl
+    checked (refused n) used s e = e
+
+    by-case : (l : Layout) → (by-layout l ps cs) .answer ≡ 0
+        → (used : ℕ) × (s : Solid) × (l ≡ laid used (s .points) (s .corners)) × (read-solid s ps cs ≡ accepted)
+    by-case fault e = absurd (omega arith)
+    by-case (laid used xs ds) e =
+        let s : Solid = record { points = xs; corners = ds } in
+        (used, s, refl, read-solid-numbered s ps cs (checked (read-solid s ps cs) used s e))
+
+pub write-success : (s : Solid) (lent : List ℕ) → (write s lent) .answer ≡ 0 → (admission s ≡ accepted) × (length (file s) ≤ length lent)
+unfolding write
+write-success s lent e =
+    let numbered = in-order-numbered checks (admission-numbered s, (given-numbered 7 (ltb (length lent) (length (file s))), tt)) in
+    let (a, (b, end)) = all-accepted checks (numbered (checked (in-order checks) e)) in
+    (a, ltb-false _ _ (not-given _ _ b))
+  where
+    checks : List Verdict
+    checks = admission s ∷ given 8 (ltb (length lent) (length (file s))) ∷ []
+
+    checked : (v : Verdict) → (writing v (file s) lent) .answer ≡ 0 → answer v ≡ 0
+    checked accepted e = refl
+    checked (refused n) e = e
+
+-- ---- the reader's checks and admission: of lists of whole threes they differ by 8 alone
+module _ (s : Solid) (ps : List Float) (cs : List ℕ) where
+  pub long-enough : length (s .points) ≤ length ps → length (s .corners) ≤ length cs → too-short ps cs s ≡ false
+  unfolding too-short
+  long-enough h k = rw (le-ltb (length ps) (length (s .points)) h, le-ltb (length cs) (length (s .corners)) k)
+
+  pub not-too-short : too-short ps cs s ≡ false → (length (s .points) ≤ length ps) × (length (s .corners) ≤ length cs)
+  unfolding too-short
+  not-too-short e =
+      let r = or-false (ltb (length ps) (length (s .points))) (ltb (length cs) (length (s .corners))) e in
+      (ltb-false _ _ (r .0), ltb-false _ _ (r .1))
+
+  pub admitted-read : admission s ≡ accepted → too-short ps cs s ≡ false → read-solid s ps cs ≡ accepted
+  unfolding admission read-solid
+  admitted-read e h =
+      let (c1, (c2, (c3, (c4, (c5, (c6, end)))))) = all-accepted _ e in
+      accepted-all _ (c2, (ap (given 8) h, (c3, (c4, (c5, (c6, tt))))))
+
+  pub read-admitted : uneven s ≡ false → read-solid s ps cs ≡ accepted → (admission s ≡ accepted) × (too-short ps cs s ≡ false)
+  unfolding admission read-solid check-lengths
+  read-admitted w e =
+      let (c2, (c8, (c3, (c4, (c5, (c6, end)))))) = all-accepted _ e in
+      (accepted-all _ (ap (given 1) w, (c2, (c3, (c4, (c5, (c6, tt)))))), not-given _ _ c8)
