@@ -9,4 +9,3 @@ pub mod Blank
 pub mod Tally
 pub mod Closure
 pub mod Answers
-pub mod Edges

@@ -1,17 +1,17 @@
 -- Words of the contracts between functions of this crate; no public statement needs them.
 use mathlib.Core.Path.{_≡_}
-use mathlib.Core.List.{List, [], _∷_, _++_, map, flatMap, List·Memᴰ}
-use Prim.Native.Nat.{ℕ, _+_, _*_, _/_, _<_, _≤_}
-use lib.ListN.{length, getD, take}
+use mathlib.Core.List.{List, [], flatMap}
+use Prim.Native.Nat.{ℕ, _+_, _*_, _/_, _<_}
+use lib.ListN.{length, getD}
 use lib.IntN.{ℤ}
 use lib.Ieee.{Float, isNan}
 use mathlib.Core.Bool.{Bool, true, false}
-use Rattle.sums.specs.Lists.{upTo, keep, before}
+use Rattle.sums.specs.Lists.{upTo}
 use Rattle.points.specs.declared.Point.{Point}
 use Rattle.points.specs.declared.Axis.the-variants.{Z}
 use Rattle.crossings.specs.declared.Facet.{Facet}
 use Rattle.crossings.specs.Crossings.{S, vf, fv}
-use Rattle.solids.specs.Solids.{Solid, Half, solid, same-half, number-of, facet-half-edges, half-edges, is-edge}
+use Rattle.solids.specs.Solids.{Solid, Half, solid, number-of, facet-half-edges}
 use Rattle.solids.specs.declared.Counted.{Counted}
 use Rattle.solids.specs.Admission.{beyond}
 use Rattle.solids.specs.Containment.{in-A, in-B, count-as-A, count-as-B}
@@ -53,28 +53,3 @@ contained false v s = in-A s v
 unfoldable pub count-as : Bool → Point → Solid → Counted
 count-as true v s = count-as-B v s
 count-as false v s = count-as-A v s
-
--- ---- the edges, listed row by row of the table
-
--- the pairs below n that come before p,q
-unfoldable pub seen : ℕ → ℕ → ℕ → List Half
-seen n p q = flatMap (λ r. map (λ s. (r, s)) (upTo n)) (upTo p) ++ map (λ s. (p, s)) (upTo q)
-
--- those of them that are edges, where the half-edges are those of the corners
-unfoldable pub edges-seen : List ℕ → ℕ → ℕ → ℕ → List Half
-edges-seen corners n p q = keep (is-edge (half-edges (solid [] corners))) (seen n p q)
-
--- an edge's number is its place in the list
-abbrev pub edge-number : Half → List Half → ℕ
-edge-number e es = length (before same-half e es)
-
-abbrev pub two-each : List Half → List ℕ
-two-each es = flatMap (λ (e : Half). e .0 ∷ e .1 ∷ []) es
-
--- Edges as code keeps them: k of them, two numbers each in a list with room for 384, and at each edge's place in a table like that of the counts its number
-pub record Listed (es : List Half) (ends numbers : List ℕ) (k : ℕ) : Type 0 where
-  pub many : k ≡ length es
-  pub room : length ends ≡ 768
-  pub size : length numbers ≡ 16384
-  pub front : length es ≤ 384 → take (2 * length es) ends ≡ two-each es
-  pub at : (e : Half) → List·Memᴰ e es → getD numbers (place e) 0 ≡ edge-number e es

@@ -8,7 +8,7 @@ ghost use Rattle.solids.specs.Solids as So;
 ghost use Rattle.solids.specs.Admission as Ad;
 ghost use Rattle.solids.specs.Table as Ta;
 
-fn place(p: u32, q: u32) -> usize
+pub fn place(p: u32, q: u32) -> usize
     requires { ⌜ (p < 128) × (q < 128) ⌝ }
     ensures { λ r. ⌜ r ≡ 128 * p + q ⌝ }
     ensures inside { λ r. ⌜ r < 16384 ⌝ }

@@ -2,11 +2,11 @@
 use mathlib.Core.Path.{_≡_, refl, sym, ap, ap₂, _∙_, subst}
 use mathlib.Core.Logic.{_≢_, _⊎_, inl, inr}
 use mathlib.Core.Bool.{Bool, true, false, cond}
-use mathlib.Core.List.{List, [], _∷_, _++_, map, flatMap, append-nil, append-assoc, List·Memᴰ, List·Memᴰ·append-cases, List·Memᴰ·eq-of-singleton, List·Memᴰ·not-nil, List·Memᴰ·cases-cons}
+use mathlib.Core.List.{List, [], _∷_, _++_, flatMap, append-nil, append-assoc, List·Memᴰ, List·Memᴰ·append-cases, List·Memᴰ·eq-of-singleton, List·Memᴰ·not-nil, List·Memᴰ·cases-cons}
 use Prim.Native.Nat.{ℕ, zero, suc, _+_, _*_, _<_, _≤_}
 use native.Mathlib.Omega.{arith}
 use native.Mathlib.Numerals.{add-one}
-use lib.Dec.{T, eqb, eqb→eq, eqb-refl}
+use lib.Dec.{eqb, eqb→eq, eqb-refl}
 use lib.ListN.{length, getD, take, set, length-set, length-append, length-map}
 use lib.Seq.{getD-set-same, getD-set-other, take-suc-set}
 use Rattle.sums.specs.Lists.{upTo, keep, before}
@@ -14,10 +14,11 @@ use Rattle.sums.proofs.Sums.{All, all-at, all-mono, all-++, all-map-of, all-fla
 use Rattle.sums.proofs.Tests.{of-T, T-of, never, all-keep}
 use Rattle.sums.proofs.UpTo.{all-upTo, length-upTo, map-upTo-suc, flat-upTo-suc}
 use Rattle.sums.proofs.Closed.{same-half-sound, same-half-self}
-use Rattle.solids.specs.Solids.{Half, same-half, pairs, is-edge, half-edges, solid}
-use Rattle.solids.specs.Table.{place, seen, edges-seen, edge-number, two-each, Listed}
+use Rattle.solids.specs.Solids.{Solid, vertices, edges, Half, same-half, pairs, is-edge, half-edges, solid}
+use Rattle.solids.specs.Table.{place}
+use Rattle.edges.specs.Words.{seen, edges-seen, edges-of, edge-number, two-each, Listed}
 use Rattle.solids.proofs.Pairs.{row}
 use Rattle.solids.proofs.Tally.{place-apart}
 
 -- ---- what comes next
 pub seen-next : (n p q : ℕ) → seen n p (q + 1) ≡ seen n p q ++ ((p, q) ∷ [])
@@ -166,3 +167,21 @@ listed-next es ends numbers k p q hp hq early l =
         subst (λ (d : Half). getD (set numbers (place (p, q)) k) (place d) 0 ≡ edge-number d (es ++ ((p, q) ∷ []))) (sym r)
         (getD-set-same numbers (place (p, q)) k 0 (let s = l .size in omega arith) ∙ l .many
         ∙ ap length (sym (before-new (p, q) es (all-mono (Earlier p q) (λ d. d ≢ (p, q)) es (λ d a. a .apart) early))))
+
+-- ---- rows, and all of them
+pub edges-row : (corners : List ℕ) (n p : ℕ) → edges-seen corners n p n ≡ edges-seen corners n (p + 1) 0
+unfolding edges-seen
+edges-row corners n p = ap (keep (is-edge (half-edges (solid [] corners)))) (seen-row n p)
+
+pub edges-all : (corners : List ℕ) (n : ℕ) → edges-seen corners n n 0 ≡ edges-of corners n
+unfolding edges-seen edges-of
+edges-all corners n = ap (keep (is-edge (half-edges (solid [] corners)))) (seen-all n)
+
+pub edges-none : (corners : List ℕ) (n : ℕ) → edges-seen corners n 0 0 ≡ []
+unfolding edges-seen seen upTo keep flatMap
+edges-none corners n = refl
+
+-- the solid's own
+pub edges-own : (s : Solid) → edges s ≡ edges-of (s .corners) (vertices s)
+unfolding edges edges-of half-edges
+edges-own s = refl

@@ -1,0 +1,103 @@
+// The edges of a solid in document 01's order, each with its number, from the table of half-edge counts.
+ghost use mathlib.Core.Path.{_≡_};
+ghost use mathlib.Core.List.{[]};
+ghost use Prim.Native.Nat.{_+_, _*_, _<_, _≤_};
+ghost use lib.ListN.{length, set};
+ghost use Rattle.solids.specs.Solids as So;
+ghost use Rattle.solids.specs.Table as Ta;
+ghost use Rattle.edges.specs.Words as Wo;
+
+// Does some half-edge join p and q, p being the lower?
+fn joins(table: &[u16; 16384], corners: &[u32], p: u32, q: u32) -> bool
+    requires { ⌜ (p < 128) × (q < 128) × Ta.Tallied (now table) (So.half-edges (So.solid [] (now corners))) ⌝ }
+    ensures { λ r. ⌜ r ≡ So.is-edge (So.half-edges (So.solid [] (now (corners .entry)))) (p, q) ⌝ }
+{
+    if p < q {
+        let there = solids::table::place(p, q);
+        if 0 < table[there] {
+            return true;
+        }
+        let back = solids::table::place(q, p);
+        0 < table[back]
+    } else {
+        false
+    }
+}
+
+// Stores where there is room.
+fn store(list: &mut [u32], at: usize, v: u32)
+    ensures { λ r. ⌜ now (list .exit) ≡ set (now (list .entry)) at v ⌝ }
+{
+    if at < list.len() {
+        list[at] = v;
+    }
+}
+
+// The pair p, q, if it is an edge, behind those that are listed.
+fn put_edge(
+    table: &[u16; 16384],
+    corners: &[u32],
+    n: u32,
+    p: u32,
+    q: u32,
+    ends: &mut [u32; 768],
+    numbers: &mut [u16; 16384],
+    k: usize,
+) -> usize
+    requires { ⌜ (p < n) × (q < n) × (n ≤ 128) × Ta.Tallied (now table) (So.half-edges (So.solid [] (now corners))) ⌝ }
+    requires { ⌜ Wo.Listed (Wo.edges-seen (now corners) n p q) (now ends) (now numbers) k ⌝ }
+    ensures { λ r. ⌜ Wo.Listed (Wo.edges-seen (now (corners .entry)) n p (q + 1)) (now (ends .exit)) (now (numbers .exit)) r ⌝ }
+{
+    if joins(table, corners, p, q) {
+        store(ends, 2 * k, p);
+        store(ends, 2 * k + 1, q);
+        let at = solids::table::place(p, q);
+        numbers[at] = k as u16;
+        return k + 1;
+    }
+    k
+}
+
+// The edges that start at p.
+fn put_row(
+    table: &[u16; 16384],
+    corners: &[u32],
+    n: u32,
+    p: u32,
+    ends: &mut [u32; 768],
+    numbers: &mut [u16; 16384],
+    k: usize,
+) -> usize
+    requires { ⌜ (p < n) × (n ≤ 128) × Ta.Tallied (now table) (So.half-edges (So.solid [] (now corners))) ⌝ }
+    requires { ⌜ Wo.Listed (Wo.edges-seen (now corners) n p 0) (now ends) (now numbers) k ⌝ }
+    ensures { λ r. ⌜ Wo.Listed (Wo.edges-seen (now (corners .entry)) n (p + 1) 0) (now (ends .exit)) (now (numbers .exit)) r ⌝ }
+{
+    let mut many = k;
+    let mut q = 0;
+    while q < n {
+        many = put_edge(table, corners, n, p, q, ends, numbers, many);
+        q += 1;
+    }
+    many
+}
+
+// All edges of a solid of n vertices: how many, their ends, and their numbers by their ends.
+pub fn list_edges(
+    table: &[u16; 16384],
+    corners: &[u32],
+    n: u32,
+    ends: &mut [u32; 768],
+    numbers: &mut [u16; 16384],
+) -> usize
+    requires { ⌜ (n ≤ 128) × Ta.Tallied (now table) (So.half-edges (So.solid [] (now corners))) ⌝ }
+    requires { ⌜ Wo.Listed [] (now ends) (now numbers) 0 ⌝ }
+    ensures { λ r. ⌜ Wo.Listed (Wo.edges-of (now (corners .entry)) n) (now (ends .exit)) (now (numbers .exit)) r ⌝ }
+{
+    let mut many = 0;
+    let mut p = 0;
+    while p < n {
+        many = put_row(table, corners, n, p, ends, numbers, many);
+        p += 1;
+    }
+    many
+}
