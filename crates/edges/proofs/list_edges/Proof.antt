@@ -8,9 +8,6 @@ use Rattle.edges.proofs.Edges.{edges-none, edges-all}
 use borrow.Author.Needs.{needs}
 use Rattle.edges.proofs.list_edges.Statement.{statement}
 use Rattle.edges.proofs.list_edges.Tie as tie
-use Rattle.edges.proofs.list_edges.Reads as reads
-use Rattle.edges.proofs.list_edges.Lts as lts
-use Rattle.edges.proofs.put_row.Reads as put-row-reads
 
 abbrev Inv-loop : tie.InvT-loop
 Inv-loop table corners n ends₀ numbers₀ many₀ p₀ ends numbers many p = (p ≤ n) × Listed (edges-seen corners n p 0) ends numbers many
@@ -18,27 +15,21 @@ Inv-loop table corners n ends₀ numbers₀ many₀ p₀ ends numbers many p = (
 abbrev μ-loop : tie.MeasureT-loop
 μ-loop table corners n ends₀ numbers₀ many₀ p₀ ends numbers many p = n - p
 
--- src/lib.rt:98:5
 loop-holds : tie.Need-loop-holds Inv-loop μ-loop
 loop-holds c = (omega arith, subst (λ es. Listed es (c .before .args .ends .now) (c .before .args .numbers .now) 0) (sym (edges-none (c .before .args .corners .now) (c .before .args .n))) (c .before .pre .1))
 
--- src/lib.rt:99:9
 put-row-requires : tie.Need-put-row-requires Inv-loop μ-loop
 put-row-requires c κs = let s = c .before .before .before .before .before in ((c .before .before .loop-test .taken, s .pre .0 .0, s .pre .0 .1), c .before .before .before .loop .inv .1)
 
--- src/lib.rt:100:9
 add-p : tie.Need-add-p Inv-loop μ-loop
 add-p c = search needs
 
--- src/lib.rt:98:5
 loop-less : tie.Need-loop-less Inv-loop μ-loop
 loop-less c = search needs
 
--- src/lib.rt:98:5
 loop-again : tie.Need-loop-again Inv-loop μ-loop
 loop-again c = (omega arith, c .put-row .ensures)
 
--- src/lib.rt:85:1
 returns : tie.Need-returns Inv-loop μ-loop
 returns c = let l = c .before in let a = l .before .before .args in subst (λ es. Listed es (l .loop .ends) (l .loop .numbers) (l .loop .many)) (ap (λ p. edges-seen (a .corners .now) (a .n) p 0) (le-antisymm (l .loop .inv .0) (c .loop-test .left)) ∙ edges-all (a .corners .now) (a .n)) (l .loop .inv .1)
 

@@ -12,11 +12,6 @@ use Rattle.edges.proofs.Edges.{edges-next, edges-few, Earlier, edges-ea
 use borrow.Author.Needs.{needs}
 use Rattle.edges.proofs.put_edge.Statement.{statement}
 use Rattle.edges.proofs.put_edge.Tie as tie
-use Rattle.edges.proofs.put_edge.Reads as reads
-use Rattle.edges.proofs.put_edge.Lts as lts
-use Rattle.edges.proofs.joins.Reads as joins-reads
-use Rattle.edges.proofs.store.Reads as store-reads
-use Rattle.solids.proofs.table.place.Reads as place-reads
 
 abbrev so-far : tie.Start → List Half
 so-far s = edges-seen (s .args .corners .now) (s .args .n) (s .args .p) (s .args .q)
@@ -39,55 +34,42 @@ no-more :
     → edges-seen (s .args .corners .now) (s .args .n) (s .args .p) (s .args .q + 1) ≡ so-far s
 no-more s e = edges-next (s .args .corners .now) (s .args .n) (s .args .p) (s .args .q) ∙ rw e (append-nil (so-far s))
 
--- src/lib.rt:51:8
 joins-requires : tie.Need-joins-requires
 joins-requires c κs = search needs
 
--- src/lib.rt:52:21
 mul-store : tie.Need-mul-store
 mul-store c = omega (arith, few (c .before .before .before .before))
 
--- src/lib.rt:52:9
 store-requires : tie.Need-store-requires
 store-requires c κs = search needs
 
--- src/lib.rt:53:21
 mul-store-2 : tie.Need-mul-store-2
 mul-store-2 c = omega (arith, few (c .before .before .before .before .before .before))
 
--- src/lib.rt:53:21
 add-store : tie.Need-add-store
 add-store c = omega (arith, few (c .before .before .before .before .before .before))
 
--- src/lib.rt:53:9
 store-requires-2 : tie.Need-store-requires-2
 store-requires-2 c κs = search needs
 
--- src/lib.rt:54:13
 place-requires : tie.Need-place-requires
 place-requires c κs = search needs
 
--- src/lib.rt:55:23
 cast-numbers : tie.Need-cast-numbers
 cast-numbers c = omega (arith, few (c .before .before .before .before .before .before .before .before))
 
--- src/lib.rt:55:9
 mul-numbers : tie.Need-mul-numbers
 mul-numbers c = search needs
 
--- src/lib.rt:55:9
 element-write-numbers : tie.Need-element-write-numbers
 element-write-numbers c = search needs
 
--- src/lib.rt:56:16
 add-result : tie.Need-add-result
 add-result c = omega (arith, few (c .before .before .before .before .before .before .before .before))
 
--- src/lib.rt:56:9
 returns : tie.Need-returns
 returns c = let s = c .before .before .before .before .before .before .before .before in rw (one-more s (sym (c .before .before .before .before .before .before .joins .ensures) ∙ c .before .before .before .before .before .if1 .taken), c .before .store2 .ensures, c .before .before .before .store .ensures, c .place .ensures .0) (listed-next (so-far s) (s .args .ends .now) (s .args .numbers .now) (s .args .k) (s .args .p) (s .args .q) (omega arith) (omega arith) (early s) (s .pre .1))
 
--- src/lib.rt:37:1
 returns-2 : tie.Need-returns-2
 returns-2 c = let s = c .before .before .before in rw (no-more s (sym (c .before .joins .ensures) ∙ c .if1 .left)) (s .pre .1)
 

@@ -8,9 +8,6 @@ use Rattle.edges.proofs.Edges.{edges-row}
 use borrow.Author.Needs.{needs}
 use Rattle.edges.proofs.put_row.Statement.{statement}
 use Rattle.edges.proofs.put_row.Tie as tie
-use Rattle.edges.proofs.put_row.Reads as reads
-use Rattle.edges.proofs.put_row.Lts as lts
-use Rattle.edges.proofs.put_edge.Reads as put-edge-reads
 
 abbrev Inv-loop : tie.InvT-loop
 Inv-loop table corners n p ends₀ numbers₀ k many₀ q₀ ends numbers many q = (q ≤ n) × Listed (edges-seen corners n p q) ends numbers many
@@ -18,27 +15,21 @@ Inv-loop table corners n p ends₀ numbers₀ k many₀ q₀ ends numbers many q
 abbrev μ-loop : tie.MeasureT-loop
 μ-loop table corners n p ends₀ numbers₀ k many₀ q₀ ends numbers many q = n - q
 
--- src/lib.rt:77:5
 loop-holds : tie.Need-loop-holds Inv-loop μ-loop
 loop-holds c = (omega arith, c .before .pre .1)
 
--- src/lib.rt:78:9
 put-edge-requires : tie.Need-put-edge-requires Inv-loop μ-loop
 put-edge-requires c κs = let s = c .before .before .before .before .before in ((s .pre .0 .0, c .before .before .loop-test .taken, s .pre .0 .1, s .pre .0 .2), c .before .before .before .loop .inv .1)
 
--- src/lib.rt:79:9
 add-q : tie.Need-add-q Inv-loop μ-loop
 add-q c = search needs
 
--- src/lib.rt:77:5
 loop-less : tie.Need-loop-less Inv-loop μ-loop
 loop-less c = search needs
 
--- src/lib.rt:77:5
 loop-again : tie.Need-loop-again Inv-loop μ-loop
 loop-again c = (omega arith, c .put-edge .ensures)
 
--- src/lib.rt:62:1
 returns : tie.Need-returns Inv-loop μ-loop
 returns c = let l = c .before in let a = l .before .before .args in subst (λ es. Listed es (l .loop .ends) (l .loop .numbers) (l .loop .many)) (ap (edges-seen (a .corners .now) (a .n) (a .p)) (le-antisymm (l .loop .inv .0) (c .loop-test .left)) ∙ edges-row (a .corners .now) (a .n) (a .p)) (l .loop .inv .1)
 

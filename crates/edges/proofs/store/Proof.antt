@@ -4,26 +4,19 @@ use lib.Seq.{set-out}
 use borrow.Author.Needs.{needs}
 use Rattle.edges.proofs.store.Statement.{statement}
 use Rattle.edges.proofs.store.Tie as tie
-use Rattle.edges.proofs.store.Reads as reads
-use Rattle.edges.proofs.store.Lts as lts
 
--- src/lib.rt:32:9
 mul-list : tie.Need-mul-list
 mul-list c = search needs
 
--- src/lib.rt:32:9
 slice-write-list : tie.Need-slice-write-list
 slice-write-list c = search needs
 
--- src/lib.rt:28:1
 same-length : tie.Need-same-length
 same-length c = search needs
 
--- src/lib.rt:28:1
 returns : tie.Need-returns
 returns c = search needs
 
--- src/lib.rt:28:1
 returns-2 : tie.Need-returns-2
 returns-2 c = sym (set-out (c .before .args .list .now) (c .before .args .at) (c .before .args .v) (c .if1 .left))
 
