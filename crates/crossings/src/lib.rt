@@ -118,7 +118,12 @@ impl Gather {
 
     fn with(self, c: Crossing) -> Gather
         requires { ⌜ natAbs (C.count c) + natAbs (self .sum) < 2 ^ 31 ⌝ }
-        ensures { λ r. ⌜ r ≡ record { by = self .by; sum = C.S (self .by) c +ℤ self .sum; plus = cond (C.lies (self .by) true c) c (self .plus); minus = cond (C.lies (self .by) false c) c (self .minus) } ⌝ }
+        ensures { λ r. ⌜ r ≡ record {
+          by = self .by;
+          sum = C.S (self .by) c +ℤ self .sum;
+          plus = cond (C.lies (self .by) true c) c (self .plus);
+          minus = cond (C.lies (self .by) false c) c (self .minus);
+        } ⌝ }
         ensures small { λ r. ⌜ natAbs (r .sum) ≤ natAbs (C.count c) + natAbs (self .sum) ⌝ }
     {
         match c {
@@ -148,7 +153,10 @@ impl Gather {
 
     // Points are worked out only where the sum is not 0.
     fn finish(self) -> Crossing
-        ensures { λ r. ⌜ r ≡ cond (nonzero (self .sum)) (Crossing.Cross (self .sum) (P.placed (self .by) (C.points (self .plus)) (C.points (self .minus)))) Crossing.Miss ⌝ }
+        ensures { λ r. ⌜ r ≡
+            cond (nonzero (self .sum))
+            (Crossing.Cross (self .sum) (P.placed (self .by) (C.points (self .plus)) (C.points (self .minus))))
+            Crossing.Miss ⌝ }
     {
         let n = self.sum;
         if n == 0 {

@@ -1,9 +1,8 @@
 -- `ee` meets its contract: it gathers its lower pairings.
-use mathlib.Core.Path.{ap, _∙_}
-use Rattle.crossings.specs.Crossings.{ee, against}
-use Rattle.crossings.proofs.Sizes.{small-ee}
-use Rattle.crossings.proofs.Gathering.{none, one-more, all-of, sized}
 use borrow.Author.Needs.{needs}
+use Rattle.crossings.specs.Crossings.{ee}
+use Rattle.crossings.proofs.Sizes.{small-ee}
+use Rattle.crossings.proofs.Gathering.{none, one-more, one-less, all-of, sized}
 use Rattle.crossings.proofs.ee.Statement.{statement}
 use Rattle.crossings.proofs.ee.Tie as tie
 
@@ -45,15 +44,17 @@ finish-requires c κs = search needs
 
 returns : tie.Need-returns
 unfolding ee
-returns c = let w4 = c .before in
+returns c =
+    let w4 = c .before in
     let w3 = w4 .before .before .before in
     let w2 = w3 .before .before in
     let w1 = w2 .before .before .before in
     let a = w1 .before .before .before .args in
-    let g1 = one-more (none (w1 .before .before .empty .ensures .0)) (w1 .before .ev .ensures .0) (w1 .with .ensures .0) in
-    let g2 = one-more g1 (w2 .before .against .ensures .0 ∙ ap against (w2 .before .before .ev2 .ensures .0)) (w2 .with2 .ensures .0) in
+    let g0 = none (w1 .before .before .empty .ensures .0) in
+    let g1 = one-more g0 (w1 .before .ev .ensures .0) (w1 .with .ensures .0) in
+    let g2 = one-less g1 (w2 .before .before .ev2 .ensures .0) (w2 .before .against .ensures .0) (w2 .with2 .ensures .0) in
     let g3 = one-more g2 (w3 .before .ve .ensures .0) (w3 .with3 .ensures .0) in
-    let g4 = one-more g3 (w4 .before .against2 .ensures .0 ∙ ap against (w4 .before .before .ve2 .ensures .0)) (w4 .with4 .ensures .0) in
+    let g4 = one-less g3 (w4 .before .before .ve2 .ensures .0) (w4 .before .against2 .ensures .0) (w4 .with4 .ensures .0) in
     sized (all-of g4 (c .finish .ensures)) (small-ee (a .a) (a .b))
 
 pub ee-spec : {M : Type 1} → statement M

@@ -1,10 +1,9 @@
 -- `ef` meets its contract: it gathers its lower pairings.
 use native.Mathlib.Omega.{arith}
-use mathlib.Core.Path.{ap, _∙_}
-use Rattle.crossings.specs.Crossings.{ef, against, ee}
-use Rattle.crossings.proofs.Sizes.{two-ef}
-use Rattle.crossings.proofs.Gathering.{none, one-more, all-of, sized, half-against}
 use borrow.Author.Needs.{needs}
+use Rattle.crossings.specs.Crossings.{ef, ee}
+use Rattle.crossings.proofs.Sizes.{two-ef}
+use Rattle.crossings.proofs.Gathering.{none, one-more, one-less, half-less, all-of, sized}
 use Rattle.crossings.proofs.ef.Statement.{statement}
 use Rattle.crossings.proofs.ef.Tie as tie
 
@@ -58,16 +57,18 @@ finish-requires c κs = search needs
 
 returns : tie.Need-returns
 unfolding ef
-returns c = let w5 = c .before in
+returns c =
+    let w5 = c .before in
     let w4 = w5 .before .before in
     let w3 = w4 .before .before .before in
     let w2 = w3 .before .before .before in
     let w1 = w2 .before .before .before in
     let a = w1 .before .before .before .before .args in
-    let g1 = one-more (none (w1 .before .before .before .empty .ensures .0)) (w1 .before .against .ensures .0 ∙ ap against (w1 .before .before .eh .ensures .0) ∙ half-against (ee (a .e)) (a .f .rp) (a .f .r) (a .f .p)) (w1 .with .ensures .0) in
-    let g2 = one-more g1 (w2 .before .against2 .ensures .0 ∙ ap against (w2 .before .before .eh2 .ensures .0) ∙ half-against (ee (a .e)) (a .f .qr) (a .f .q) (a .f .r)) (w2 .with2 .ensures .0) in
-    let g3 = one-more g2 (w3 .before .against3 .ensures .0 ∙ ap against (w3 .before .before .eh3 .ensures .0) ∙ half-against (ee (a .e)) (a .f .pq) (a .f .p) (a .f .q)) (w3 .with3 .ensures .0) in
-    let g4 = one-more g3 (w4 .before .against4 .ensures .0 ∙ ap against (w4 .before .before .vf .ensures .0)) (w4 .with4 .ensures .0) in
+    let g0 = none (w1 .before .before .before .empty .ensures .0) in
+    let g1 = half-less g0 (ee (a .e)) (a .f .rp) (a .f .r) (a .f .p) (w1 .before .before .eh .ensures .0) (w1 .before .against .ensures .0) (w1 .with .ensures .0) in
+    let g2 = half-less g1 (ee (a .e)) (a .f .qr) (a .f .q) (a .f .r) (w2 .before .before .eh2 .ensures .0) (w2 .before .against2 .ensures .0) (w2 .with2 .ensures .0) in
+    let g3 = half-less g2 (ee (a .e)) (a .f .pq) (a .f .p) (a .f .q) (w3 .before .before .eh3 .ensures .0) (w3 .before .against3 .ensures .0) (w3 .with3 .ensures .0) in
+    let g4 = one-less g3 (w4 .before .before .vf .ensures .0) (w4 .before .against4 .ensures .0) (w4 .with4 .ensures .0) in
     let g5 = one-more g4 (w5 .before .vf2 .ensures .0) (w5 .with5 .ensures .0) in
     sized (all-of g5 (c .finish .ensures)) (two-ef (a .e) (a .f))
 

@@ -1,9 +1,8 @@
 -- `ev` meets its contract: it gathers its lower pairings.
-use mathlib.Core.Path.{ap, _∙_}
-use Rattle.crossings.specs.Crossings.{ev, against}
-use Rattle.crossings.proofs.Sizes.{small-ev}
-use Rattle.crossings.proofs.Gathering.{none, one-more, all-of, sized}
 use borrow.Author.Needs.{needs}
+use Rattle.crossings.specs.Crossings.{ev}
+use Rattle.crossings.proofs.Sizes.{small-ev}
+use Rattle.crossings.proofs.Gathering.{none, one-more, one-less, all-of, sized}
 use Rattle.crossings.proofs.ev.Statement.{statement}
 use Rattle.crossings.proofs.ev.Tie as tie
 
@@ -30,10 +29,12 @@ finish-requires c κs = search needs
 
 returns : tie.Need-returns
 unfolding ev
-returns c = let w2 = c .before in
+returns c =
+    let w2 = c .before in
     let w1 = w2 .before .before in
     let a = w1 .before .before .before .before .args in
-    let g1 = one-more (none (w1 .before .before .before .empty .ensures .0)) (w1 .before .against .ensures .0 ∙ ap against (w1 .before .before .vv .ensures .0)) (w1 .with .ensures .0) in
+    let g0 = none (w1 .before .before .before .empty .ensures .0) in
+    let g1 = one-less g0 (w1 .before .before .vv .ensures .0) (w1 .before .against .ensures .0) (w1 .with .ensures .0) in
     let g2 = one-more g1 (w2 .before .vv2 .ensures .0) (w2 .with2 .ensures .0) in
     sized (all-of g2 (c .finish .ensures)) (small-ev (a .e) (a .v))
 

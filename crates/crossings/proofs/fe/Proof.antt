@@ -1,10 +1,9 @@
 -- `fe` meets its contract: it gathers its lower pairings.
 use native.Mathlib.Omega.{arith}
-use mathlib.Core.Path.{ap, _∙_}
-use Rattle.crossings.specs.Crossings.{fe, against, ee}
-use Rattle.crossings.proofs.Sizes.{two-fe}
-use Rattle.crossings.proofs.Gathering.{none, one-more, all-of, sized, half-against}
 use borrow.Author.Needs.{needs}
+use Rattle.crossings.specs.Crossings.{fe, ee}
+use Rattle.crossings.proofs.Sizes.{two-fe}
+use Rattle.crossings.proofs.Gathering.{none, one-more, one-less, half-less, all-of, sized}
 use Rattle.crossings.proofs.fe.Statement.{statement}
 use Rattle.crossings.proofs.fe.Tie as tie
 
@@ -58,17 +57,19 @@ finish-requires c κs = search needs
 
 returns : tie.Need-returns
 unfolding fe
-returns c = let w5 = c .before in
+returns c =
+    let w5 = c .before in
     let w4 = w5 .before .before .before in
     let w3 = w4 .before .before .before in
     let w2 = w3 .before .before .before in
     let w1 = w2 .before .before .before in
     let a = w1 .before .before .before .args in
-    let g1 = one-more (none (w1 .before .before .empty .ensures .0)) (w1 .before .fv .ensures .0) (w1 .with .ensures .0) in
-    let g2 = one-more g1 (w2 .before .against .ensures .0 ∙ ap against (w2 .before .before .fv2 .ensures .0)) (w2 .with2 .ensures .0) in
-    let g3 = one-more g2 (w3 .before .against2 .ensures .0 ∙ ap against (w3 .before .before .he .ensures .0) ∙ half-against (λ h. ee h (a .e)) (a .f .rp) (a .f .r) (a .f .p)) (w3 .with3 .ensures .0) in
-    let g4 = one-more g3 (w4 .before .against3 .ensures .0 ∙ ap against (w4 .before .before .he2 .ensures .0) ∙ half-against (λ h. ee h (a .e)) (a .f .qr) (a .f .q) (a .f .r)) (w4 .with4 .ensures .0) in
-    let g5 = one-more g4 (w5 .before .against4 .ensures .0 ∙ ap against (w5 .before .before .he3 .ensures .0) ∙ half-against (λ h. ee h (a .e)) (a .f .pq) (a .f .p) (a .f .q)) (w5 .with5 .ensures .0) in
+    let g0 = none (w1 .before .before .empty .ensures .0) in
+    let g1 = one-more g0 (w1 .before .fv .ensures .0) (w1 .with .ensures .0) in
+    let g2 = one-less g1 (w2 .before .before .fv2 .ensures .0) (w2 .before .against .ensures .0) (w2 .with2 .ensures .0) in
+    let g3 = half-less g2 (λ h. ee h (a .e)) (a .f .rp) (a .f .r) (a .f .p) (w3 .before .before .he .ensures .0) (w3 .before .against2 .ensures .0) (w3 .with3 .ensures .0) in
+    let g4 = half-less g3 (λ h. ee h (a .e)) (a .f .qr) (a .f .q) (a .f .r) (w4 .before .before .he2 .ensures .0) (w4 .before .against3 .ensures .0) (w4 .with4 .ensures .0) in
+    let g5 = half-less g4 (λ h. ee h (a .e)) (a .f .pq) (a .f .p) (a .f .q) (w5 .before .before .he3 .ensures .0) (w5 .before .against4 .ensures .0) (w5 .with5 .ensures .0) in
     sized (all-of g5 (c .finish .ensures)) (two-fe (a .f) (a .e))
 
 pub fe-spec : {M : Type 1} → statement M

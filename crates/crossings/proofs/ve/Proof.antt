@@ -1,9 +1,8 @@
 -- `ve` meets its contract: it gathers its lower pairings.
-use mathlib.Core.Path.{ap, _∙_}
-use Rattle.crossings.specs.Crossings.{ve, against}
-use Rattle.crossings.proofs.Sizes.{small-ve}
-use Rattle.crossings.proofs.Gathering.{none, one-more, all-of, sized}
 use borrow.Author.Needs.{needs}
+use Rattle.crossings.specs.Crossings.{ve}
+use Rattle.crossings.proofs.Sizes.{small-ve}
+use Rattle.crossings.proofs.Gathering.{none, one-more, one-less, all-of, sized}
 use Rattle.crossings.proofs.ve.Statement.{statement}
 use Rattle.crossings.proofs.ve.Tie as tie
 
@@ -30,11 +29,13 @@ finish-requires c κs = search needs
 
 returns : tie.Need-returns
 unfolding ve
-returns c = let w2 = c .before in
+returns c =
+    let w2 = c .before in
     let w1 = w2 .before .before .before in
     let a = w1 .before .before .before .args in
-    let g1 = one-more (none (w1 .before .before .empty .ensures .0)) (w1 .before .vv .ensures .0) (w1 .with .ensures .0) in
-    let g2 = one-more g1 (w2 .before .against .ensures .0 ∙ ap against (w2 .before .before .vv2 .ensures .0)) (w2 .with2 .ensures .0) in
+    let g0 = none (w1 .before .before .empty .ensures .0) in
+    let g1 = one-more g0 (w1 .before .vv .ensures .0) (w1 .with .ensures .0) in
+    let g2 = one-less g1 (w2 .before .before .vv2 .ensures .0) (w2 .before .against .ensures .0) (w2 .with2 .ensures .0) in
     sized (all-of g2 (c .finish .ensures)) (small-ve (a .v) (a .e))
 
 pub ve-spec : {M : Type 1} → statement M
