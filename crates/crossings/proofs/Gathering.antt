@@ -56,7 +56,7 @@ half-against : (g : Edge → Crossing) (w : Bool) (p q : Point) → against (hal
 half-against g true p q = refl
 half-against g false p q = refl
 
--- ---- the same, call by call: g has gathered cs
+-- ---- the gathering call by call: g has gathered cs, by k
 pub record Gathered (k : Axis) (cs : List Crossing) (g : Gather) : Type 0 where
   pub is : g ≡ gathered k cs
 

@@ -95,7 +95,7 @@ impl Crossing {
 }
 
 // What a pairing takes from its lower pairings: the sum of their S, the first plus and the first minus (Miss where there is none), all by one axis.
-// They are gathered from the last to the first, so that each goes before those that were found, and nobody has to ask whether there are any.
+// They are gathered from the last to the first: each takes the place of what was found behind it, and nothing asks whether something was.
 struct Gather {
     by: Axis,
     sum: i32,
