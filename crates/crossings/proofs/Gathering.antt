@@ -44,7 +44,19 @@ pub gathered-paired : (k : Axis) (cs : List Crossing) → finished (gathered k c
 unfolding paired crossing
 gathered-paired k cs = ap finished (gathered-is k cs)
 
--- ---- the same, call by call: g has gathered cs
+-- ---- a half-edge by its edge, as `edge_of` and `Crossing::signed` give it
+abbrev pub edge-at : Bool → Point → Point → Edge
+edge-at w p q = cond w (record { start = p; end = q }) (record { start = q; end = p })
+
+pub half-at : (g : Edge → Crossing) (w : Bool) (p q : Point) → cond w (g (edge-at w p q)) (against (g (edge-at w p q))) ≡ half g w p q
+half-at g true p q = refl
+half-at g false p q = refl
+
+half-against : (g : Edge → Crossing) (w : Bool) (p q : Point) → against (half g w p q) ≡ half (λ h. against (g h)) w p q
+half-against g true p q = refl
+half-against g false p q = refl
+
+-- ---- the gathering call by call: g has gathered cs, by k
 pub record Gathered (k : Axis) (cs : List Crossing) (g : Gather) : Type 0 where
   pub is : g ≡ gathered k cs
 
@@ -53,27 +65,26 @@ module _ {k : Axis} where
   unfolding gathered
   none e = record { is = e }
 
-  -- what is added may be known by another name
-  pub one-more : {cs : List Crossing} {g r : Gather} {c d : Crossing} → Gathered k cs g → c ≡ d → r ≡ added c g → Gathered k (d ∷ cs) r
-  unfolding gathered
-  one-more i e f = record { is = f ∙ ap₂ added e (i .is) }
+  module _ {cs : List Crossing} {g r : Gather} (i : Gathered k cs g) where
+    pub one-more : {c d : Crossing} → c ≡ d → r ≡ added c g → Gathered k (d ∷ cs) r
+    unfolding gathered
+    one-more e f = record { is = f ∙ ap₂ added e (i .is) }
+
+    pub half-more : (x : Edge → Crossing) (w : Bool) (p q : Point) {c : Crossing} → c ≡ half x w p q → r ≡ added c g → Gathered k (half x w p q ∷ cs) r
+    half-more x w p q e f = one-more e f
+
+    -- with a minus sign
+    pub one-less : {b c d : Crossing} → c ≡ d → b ≡ against c → r ≡ added b g → Gathered k (against d ∷ cs) r
+    one-less e s f = one-more (s ∙ ap against e) f
+
+    pub half-less : (x : Edge → Crossing) (w : Bool) (p q : Point) {b c : Crossing} → c ≡ half x w p q → b ≡ against c → r ≡ added b g
+        → Gathered k (half (λ h. against (x h)) w p q ∷ cs) r
+    half-less x w p q e s f = one-more (s ∙ ap against e ∙ half-against x w p q) f
 
   pub all-of : {cs : List Crossing} {g : Gather} {r : Crossing} → Gathered k cs g → r ≡ finished g → r ≡ paired k cs
   all-of {cs} i f = f ∙ ap finished (i .is) ∙ gathered-paired k cs
 
--- a half-edge by its edge, as `edge_of` and `Crossing::signed` give it
-abbrev pub edge-at : Bool → Point → Point → Edge
-edge-at w p q = cond w (record { start = p; end = q }) (record { start = q; end = p })
-
-pub half-at : (g : Edge → Crossing) (w : Bool) (p q : Point) → cond w (g (edge-at w p q)) (against (g (edge-at w p q))) ≡ half g w p q
-half-at g true p q = refl
-half-at g false p q = refl
-
-pub half-against : (g : Edge → Crossing) (w : Bool) (p q : Point) → against (half g w p q) ≡ half (λ h. against (g h)) w p q
-half-against g true p q = refl
-half-against g false p q = refl
-
--- a contract's two clauses from its first
+-- ---- a contract's two clauses from its first
 pub sized : {n : ℕ} {r c : Crossing} → r ≡ c → Bnd n (count c) → (r ≡ c) × Bnd n (count r)
 sized e h = (e, rw e h)
 

@@ -95,7 +95,7 @@ impl Crossing {
 }
 
 // What a pairing takes from its lower pairings: the sum of their S, the first plus and the first minus (Miss where there is none), all by one axis.
-// They are gathered from the last to the first, so that each goes before those that were found.
+// They are gathered from the last to the first: each takes the place of what was found behind it, and nothing asks whether something was.
 struct Gather {
     by: Axis,
     sum: i32,
@@ -118,7 +118,12 @@ impl Gather {
 
     fn with(self, c: Crossing) -> Gather
         requires { ⌜ natAbs (C.count c) + natAbs (self .sum) < 2 ^ 31 ⌝ }
-        ensures { λ r. ⌜ r ≡ record { by = self .by; sum = C.S (self .by) c +ℤ self .sum; plus = cond (C.lies (self .by) true c) c (self .plus); minus = cond (C.lies (self .by) false c) c (self .minus) } ⌝ }
+        ensures { λ r. ⌜ r ≡ record {
+          by = self .by;
+          sum = C.S (self .by) c +ℤ self .sum;
+          plus = cond (C.lies (self .by) true c) c (self .plus);
+          minus = cond (C.lies (self .by) false c) c (self .minus);
+        } ⌝ }
         ensures small { λ r. ⌜ natAbs (r .sum) ≤ natAbs (C.count c) + natAbs (self .sum) ⌝ }
     {
         match c {
@@ -148,7 +153,10 @@ impl Gather {
 
     // Points are worked out only where the sum is not 0.
     fn finish(self) -> Crossing
-        ensures { λ r. ⌜ r ≡ cond (nonzero (self .sum)) (Crossing.Cross (self .sum) (P.placed (self .by) (C.points (self .plus)) (C.points (self .minus)))) Crossing.Miss ⌝ }
+        ensures { λ r. ⌜ r ≡
+            cond (nonzero (self .sum))
+            (Crossing.Cross (self .sum) (P.placed (self .by) (C.points (self .plus)) (C.points (self .minus))))
+            Crossing.Miss ⌝ }
     {
         let n = self.sum;
         if n == 0 {
@@ -174,10 +182,9 @@ pub fn ve(v: Point, e: Edge) -> Crossing
     ensures { λ r. ⌜ r ≡ C.ve v e ⌝ }
     ensures small { λ r. ⌜ natAbs (C.count r) ≤ 1 ⌝ }
 {
-    Gather::empty(Axis::X)
-        .with(vv(v, e.end))
-        .with(vv(v, e.start).against())
-        .finish()
+    let start = vv(v, e.start).against();
+    let end = vv(v, e.end);
+    Gather::empty(Axis::X).with(end).with(start).finish()
 }
 
 // "X(eA,vB) = S(s,vB) - S(e,vB)"
@@ -185,10 +192,9 @@ pub fn ev(e: Edge, v: Point) -> Crossing
     ensures { λ r. ⌜ r ≡ C.ev e v ⌝ }
     ensures small { λ r. ⌜ natAbs (C.count r) ≤ 1 ⌝ }
 {
-    Gather::empty(Axis::X)
-        .with(vv(e.end, v).against())
-        .with(vv(e.start, v))
-        .finish()
+    let start = vv(e.start, v);
+    let end = vv(e.end, v).against();
+    Gather::empty(Axis::X).with(end).with(start).finish()
 }
 
 // "X(eA,eB) = S(eA's e,eB) - S(eA's s,eB) + S(eA,eB's e) - S(eA,eB's s)"
@@ -196,15 +202,15 @@ pub fn ee(a: Edge, b: Edge) -> Crossing
     ensures { λ r. ⌜ r ≡ C.ee a b ⌝ }
     ensures small { λ r. ⌜ natAbs (C.count r) ≤ 1 ⌝ }
 {
-    Gather::empty(Axis::Y)
-        .with(ev(a, b.end))
-        .with(ev(a, b.start).against())
-        .with(ve(a.end, b))
-        .with(ve(a.start, b).against())
-        .finish()
+    let start_a = ve(a.start, b).against();
+    let end_a = ve(a.end, b);
+    let start_b = ev(a, b.start).against();
+    let end_b = ev(a, b.end);
+    let of_b = Gather::empty(Axis::Y).with(end_b).with(start_b);
+    of_b.with(end_a).with(start_a).finish()
 }
 
-// The edge of the half-edge from p to q, which runs along it or against it.
+// The edge of the half-edge from p to q, which runs along it or against it. Nothing is worked out in a half-edge's own direction.
 fn edge_of(along: bool, p: Point, q: Point) -> Edge
     ensures { λ r. ⌜ r ≡ cond along (record { start = p; end = q }) (record { start = q; end = p }) ⌝ }
 {
@@ -249,11 +255,10 @@ pub fn vf(v: Point, f: Facet) -> Crossing
     ensures { λ r. ⌜ r ≡ C.vf v f ⌝ }
     ensures small { λ r. ⌜ natAbs (C.count r) ≤ 1 ⌝ }
 {
-    Gather::empty(Axis::Y)
-        .with(vh(v, f.rp, f.r, f.p).against())
-        .with(vh(v, f.qr, f.q, f.r).against())
-        .with(vh(v, f.pq, f.p, f.q).against())
-        .finish()
+    let pq = vh(v, f.pq, f.p, f.q).against();
+    let qr = vh(v, f.qr, f.q, f.r).against();
+    let rp = vh(v, f.rp, f.r, f.p).against();
+    Gather::empty(Axis::Y).with(rp).with(qr).with(pq).finish()
 }
 
 // "X(fA,vB) = sum S(h,vB)"
@@ -261,11 +266,10 @@ pub fn fv(f: Facet, v: Point) -> Crossing
     ensures { λ r. ⌜ r ≡ C.fv f v ⌝ }
     ensures small { λ r. ⌜ natAbs (C.count r) ≤ 1 ⌝ }
 {
-    Gather::empty(Axis::Y)
-        .with(hv(f.rp, f.r, f.p, v))
-        .with(hv(f.qr, f.q, f.r, v))
-        .with(hv(f.pq, f.p, f.q, v))
-        .finish()
+    let pq = hv(f.pq, f.p, f.q, v);
+    let qr = hv(f.qr, f.q, f.r, v);
+    let rp = hv(f.rp, f.r, f.p, v);
+    Gather::empty(Axis::Y).with(rp).with(qr).with(pq).finish()
 }
 
 // "X(eA,fB) = S(s,fB) - S(e,fB) - sum S(eA,h)"
@@ -273,13 +277,13 @@ pub fn ef(e: Edge, f: Facet) -> Crossing
     ensures { λ r. ⌜ r ≡ C.ef e f ⌝ }
     ensures small { λ r. ⌜ natAbs (C.count r) ≤ 2 ⌝ }
 {
-    Gather::empty(Axis::Z)
-        .with(eh(e, f.rp, f.r, f.p).against())
-        .with(eh(e, f.qr, f.q, f.r).against())
-        .with(eh(e, f.pq, f.p, f.q).against())
-        .with(vf(e.end, f).against())
-        .with(vf(e.start, f))
-        .finish()
+    let start = vf(e.start, f);
+    let end = vf(e.end, f).against();
+    let pq = eh(e, f.pq, f.p, f.q).against();
+    let qr = eh(e, f.qr, f.q, f.r).against();
+    let rp = eh(e, f.rp, f.r, f.p).against();
+    let of_b = Gather::empty(Axis::Z).with(rp).with(qr).with(pq);
+    of_b.with(end).with(start).finish()
 }
 
 // "X(fA,eB) = S(fA,e) - S(fA,s) - sum S(h,eB)"
@@ -287,11 +291,11 @@ pub fn fe(f: Facet, e: Edge) -> Crossing
     ensures { λ r. ⌜ r ≡ C.fe f e ⌝ }
     ensures small { λ r. ⌜ natAbs (C.count r) ≤ 2 ⌝ }
 {
-    Gather::empty(Axis::Z)
-        .with(fv(f, e.end))
-        .with(fv(f, e.start).against())
-        .with(he(f.rp, f.r, f.p, e).against())
-        .with(he(f.qr, f.q, f.r, e).against())
-        .with(he(f.pq, f.p, f.q, e).against())
-        .finish()
+    let pq = he(f.pq, f.p, f.q, e).against();
+    let qr = he(f.qr, f.q, f.r, e).against();
+    let rp = he(f.rp, f.r, f.p, e).against();
+    let start = fv(f, e.start).against();
+    let end = fv(f, e.end);
+    let of_b = Gather::empty(Axis::Z).with(end).with(start);
+    of_b.with(rp).with(qr).with(pq).finish()
 }

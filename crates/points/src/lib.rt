@@ -54,6 +54,7 @@ pub fn share(plus: f64, minus: f64) -> f64
     plus / (plus - minus)
 }
 
+// p at most v at most m; false at a NaN
 fn in_order(p: f64, v: f64, m: f64) -> bool
     ensures { λ r. ⌜ r ≡ (le p v && le v m) ⌝ }
 {

@@ -1,7 +1,7 @@
 -- `eh` meets its contract: what `ee` gives for the edge, signed.
+use borrow.Author.Needs.{needs}
 use Rattle.crossings.specs.Crossings.{ee}
 use Rattle.crossings.proofs.Gathering.{half-at}
-use borrow.Author.Needs.{needs}
 use Rattle.crossings.proofs.eh.Statement.{statement}
 use Rattle.crossings.proofs.eh.Tie as tie
 
@@ -15,8 +15,11 @@ signed-requires : tie.Need-signed-requires
 signed-requires c κs = search needs
 
 returns : tie.Need-returns
-returns c = let a = c .before .before .before .args in
-    (rw (c .signed .ensures .0, c .before .ee .ensures .0, c .before .before .edge-of .ensures) (half-at (ee (a .e)) (a .along) (a .p) (a .q)), search needs)
+returns c = let a = c .before .before .before .args in (
+  rw (c .signed .ensures .0, c .before .ee .ensures .0, c .before .before .edge-of .ensures)
+      (half-at (ee (a .e)) (a .along) (a .p) (a .q)),
+  search needs,
+)
 
 pub eh-spec : {M : Type 1} → statement M
 eh-spec = tie.close (tie.spec edge-of-requires ee-requires signed-requires returns)

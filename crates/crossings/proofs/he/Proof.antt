@@ -1,7 +1,7 @@
 -- `he` meets its contract: what `ee` gives for the edge, signed.
+use borrow.Author.Needs.{needs}
 use Rattle.crossings.specs.Crossings.{ee}
 use Rattle.crossings.proofs.Gathering.{half-at}
-use borrow.Author.Needs.{needs}
 use Rattle.crossings.proofs.he.Statement.{statement}
 use Rattle.crossings.proofs.he.Tie as tie
 
@@ -15,8 +15,11 @@ signed-requires : tie.Need-signed-requires
 signed-requires c κs = search needs
 
 returns : tie.Need-returns
-returns c = let a = c .before .before .before .args in
-    (rw (c .signed .ensures .0, c .before .ee .ensures .0, c .before .before .edge-of .ensures) (half-at (λ h. ee h (a .e)) (a .along) (a .p) (a .q)), search needs)
+returns c = let a = c .before .before .before .args in (
+  rw (c .signed .ensures .0, c .before .ee .ensures .0, c .before .before .edge-of .ensures)
+      (half-at (λ h. ee h (a .e)) (a .along) (a .p) (a .q)),
+  search needs,
+)
 
 pub he-spec : {M : Type 1} → statement M
 he-spec = tie.close (tie.spec edge-of-requires ee-requires signed-requires returns)

@@ -1,26 +1,25 @@
 -- `ve` meets its contract: it gathers its lower pairings.
-use mathlib.Core.Path.{ap, _∙_}
-use Rattle.crossings.specs.Crossings.{ve, against}
-use Rattle.crossings.proofs.Sizes.{small-ve}
-use Rattle.crossings.proofs.Gathering.{none, one-more, all-of, sized}
 use borrow.Author.Needs.{needs}
+use Rattle.crossings.specs.Crossings.{ve}
+use Rattle.crossings.proofs.Gathering.{none, one-more, one-less, all-of, sized}
+use Rattle.crossings.proofs.Sizes.{small-ve}
 use Rattle.crossings.proofs.ve.Statement.{statement}
 use Rattle.crossings.proofs.ve.Tie as tie
-
-empty-requires : tie.Need-empty-requires
-empty-requires c κs = search needs
 
 vv-requires : tie.Need-vv-requires
 vv-requires c κs = search needs
 
-with-requires : tie.Need-with-requires
-with-requires c κs = search needs
+against-requires : tie.Need-against-requires
+against-requires c κs = search needs
 
 vv-requires-2 : tie.Need-vv-requires-2
 vv-requires-2 c κs = search needs
 
-against-requires : tie.Need-against-requires
-against-requires c κs = search needs
+empty-requires : tie.Need-empty-requires
+empty-requires c κs = search needs
+
+with-requires : tie.Need-with-requires
+with-requires c κs = search needs
 
 with-requires-2 : tie.Need-with-requires-2
 with-requires-2 c κs = search needs
@@ -30,22 +29,26 @@ finish-requires c κs = search needs
 
 returns : tie.Need-returns
 unfolding ve
-returns c = let w2 = c .before in
-    let w1 = w2 .before .before .before in
-    let a = w1 .before .before .before .args in
-    let g1 = one-more (none (w1 .before .before .empty .ensures .0)) (w1 .before .vv .ensures .0) (w1 .with .ensures .0) in
-    let g2 = one-more g1 (w2 .before .against .ensures .0 ∙ ap against (w2 .before .before .vv2 .ensures .0)) (w2 .with2 .ensures .0) in
+returns c =
+    let w2 = c .before in
+    let w1 = w2 .before in
+    let end = w1 .before .before in
+    let start = end .before in
+    let a = start .before .before .args in
+    let g0 = none (w1 .before .empty .ensures .0) in
+    let g1 = one-more g0 (end .vv2 .ensures .0) (w1 .with .ensures .0) in
+    let g2 = one-less g1 (start .before .vv .ensures .0) (start .against .ensures .0) (w2 .with2 .ensures .0) in
     sized (all-of g2 (c .finish .ensures)) (small-ve (a .v) (a .e))
 
 pub ve-spec : {M : Type 1} → statement M
 ve-spec =
     tie.close
     (tie.spec
-    empty-requires
     vv-requires
-    with-requires
-    vv-requires-2
     against-requires
+    vv-requires-2
+    empty-requires
+    with-requires
     with-requires-2
     finish-requires
     returns)

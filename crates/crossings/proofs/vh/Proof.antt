@@ -1,7 +1,7 @@
 -- `vh` meets its contract: what `ve` gives for the edge, signed.
+use borrow.Author.Needs.{needs}
 use Rattle.crossings.specs.Crossings.{ve}
 use Rattle.crossings.proofs.Gathering.{half-at}
-use borrow.Author.Needs.{needs}
 use Rattle.crossings.proofs.vh.Statement.{statement}
 use Rattle.crossings.proofs.vh.Tie as tie
 
@@ -15,8 +15,11 @@ signed-requires : tie.Need-signed-requires
 signed-requires c κs = search needs
 
 returns : tie.Need-returns
-returns c = let a = c .before .before .before .args in
-    (rw (c .signed .ensures .0, c .before .ve .ensures .0, c .before .before .edge-of .ensures) (half-at (ve (a .v)) (a .along) (a .p) (a .q)), search needs)
+returns c = let a = c .before .before .before .args in (
+  rw (c .signed .ensures .0, c .before .ve .ensures .0, c .before .before .edge-of .ensures)
+      (half-at (ve (a .v)) (a .along) (a .p) (a .q)),
+  search needs,
+)
 
 pub vh-spec : {M : Type 1} → statement M
 vh-spec = tie.close (tie.spec edge-of-requires ve-requires signed-requires returns)

@@ -1,6 +1,6 @@
 -- `at_least` meets its contract: one comparison of the two coordinates.
-use Rattle.points.specs.Points.{at-least}
 use borrow.Author.Needs.{needs}
+use Rattle.points.specs.Points.{at-least}
 use Rattle.points.proofs.at_least.Statement.{statement}
 use Rattle.points.proofs.at_least.Tie as tie
 

@@ -1,6 +1,6 @@
 -- `between` meets its contract: each order is looked at by `in_order`.
-use Rattle.points.specs.Points.{between}
 use borrow.Author.Needs.{needs}
+use Rattle.points.specs.Points.{between}
 use Rattle.points.proofs.between.Statement.{statement}
 use Rattle.points.proofs.between.Tie as tie
 

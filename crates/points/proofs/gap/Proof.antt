@@ -1,6 +1,6 @@
 -- `gap` meets its contract: one subtraction of the two coordinates.
-use Rattle.points.specs.Points.{gap}
 use borrow.Author.Needs.{needs}
+use Rattle.points.specs.Points.{gap}
 use Rattle.points.proofs.gap.Statement.{statement}
 use Rattle.points.proofs.gap.Tie as tie
 

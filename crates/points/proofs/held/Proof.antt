@@ -1,6 +1,6 @@
 -- `held` meets its contract: the branch is the one that `between` answers.
-use Rattle.points.specs.Points.{held}
 use borrow.Author.Needs.{needs}
+use Rattle.points.specs.Points.{held}
 use Rattle.points.proofs.held.Statement.{statement}
 use Rattle.points.proofs.held.Tie as tie
 

@@ -1,6 +1,6 @@
 -- `interpolated` meets its contract: a subtraction, a product and a subtraction, each rounded once, and then the hold.
-use Rattle.points.specs.Points.{interpolated}
 use borrow.Author.Needs.{needs}
+use Rattle.points.specs.Points.{interpolated}
 use Rattle.points.proofs.interpolated.Statement.{statement}
 use Rattle.points.proofs.interpolated.Tie as tie
 

@@ -1,6 +1,6 @@
 -- `pair_at` meets its contract: A's point and B's.
-use Rattle.points.specs.Points.{pair-at}
 use borrow.Author.Needs.{needs}
+use Rattle.points.specs.Points.{pair-at}
 use Rattle.points.proofs.pair_at.Statement.{statement}
 use Rattle.points.proofs.pair_at.Tie as tie
 

@@ -1,6 +1,6 @@
 -- `placed` meets its contract: the share of the two gaps, and the points at it.
-use Rattle.points.specs.Points.{placed}
 use borrow.Author.Needs.{needs}
+use Rattle.points.specs.Points.{placed}
 use Rattle.points.proofs.placed.Statement.{statement}
 use Rattle.points.proofs.placed.Tie as tie
 

@@ -1,6 +1,6 @@
 -- `point_at` meets its contract, coordinate by coordinate.
-use Rattle.points.specs.Points.{point-at}
 use borrow.Author.Needs.{needs}
+use Rattle.points.specs.Points.{point-at}
 use Rattle.points.proofs.point_at.Statement.{statement}
 use Rattle.points.proofs.point_at.Tie as tie
 

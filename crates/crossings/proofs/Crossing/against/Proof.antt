@@ -1,13 +1,13 @@
 -- `Crossing::against` meets its contract: the negated count fits, and is as large as it was.
-use Rattle.crossings.proofs.Fits.{fits-neg}
-use Rattle.sums.proofs.Integers.{bnd-neg}
-use mir.Facts.{toZ-ofZ}
-use lib.IntN.{negℤ, natAbs, +ℤ-idl}
-use native.Mathlib.Nat.{le-refl}
 use mathlib.Core.Path.{_≡_, refl}
+use native.Mathlib.Nat.{le-refl}
+use lib.IntN.{negℤ, natAbs, +ℤ-idl}
+use mir.Facts.{toZ-ofZ}
 use mir.Val.{toZ, ofZ}
 use mir.Syntax.{w32}
 use borrow.Author.Needs.{needs}
+use Rattle.sums.proofs.Integers.{bnd-neg}
+use Rattle.crossings.proofs.Fits.{fits-neg}
 use Rattle.crossings.proofs.Crossing.against.Statement.{statement}
 use Rattle.crossings.proofs.Crossing.against.Tie as tie
 

@@ -1,7 +1,7 @@
 -- `Crossing::count` meets its contract, variant by variant.
+use mathlib.Core.Path.{_≡_}
 use mir.Val.{toZ, ofZ}
 use mir.Syntax.{w32}
-use mathlib.Core.Path.{_≡_}
 use borrow.Author.Needs.{needs}
 use Rattle.crossings.proofs.Crossing.count.Statement.{statement}
 use Rattle.crossings.proofs.Crossing.count.Tie as tie

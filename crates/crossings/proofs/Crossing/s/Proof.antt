@@ -1,10 +1,10 @@
 -- `Crossing::s` meets its contract: the count where `at_least` holds of its points. It is no larger than the count (`S-size`).
-use Rattle.crossings.specs.Crossings.{S}
-use native.Mathlib.Omega.{arith}
 use mathlib.Core.Path.{_≡_, refl}
+use native.Mathlib.Omega.{arith}
 use mir.Val.{toZ, ofZ}
 use mir.Syntax.{w32}
 use borrow.Author.Needs.{needs}
+use Rattle.crossings.specs.Crossings.{S}
 use Rattle.crossings.proofs.Crossing.s.Statement.{statement}
 use Rattle.crossings.proofs.Crossing.s.Tie as tie
 

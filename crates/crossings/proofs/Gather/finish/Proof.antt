@@ -2,8 +2,8 @@
 use mathlib.Core.Path.{_≡_}
 use mir.Syntax.{w32}
 use mir.Val.{toZ, ofZ}
-use Rattle.crossings.proofs.Fits.{zero-not, not-zero}
 use borrow.Author.Needs.{needs}
+use Rattle.crossings.proofs.Fits.{zero-not, not-zero}
 use Rattle.crossings.proofs.Gather.finish.Statement.{statement}
 use Rattle.crossings.proofs.Gather.finish.Tie as tie
 

@@ -4,10 +4,10 @@ use lib.IntN.{+ℤ-idl}
 use mir.Syntax.{w32}
 use mir.Val.{toZ, ofZ}
 use mir.Facts.{toZ-ofZ}
+use borrow.Author.Needs.{needs}
 use Rattle.crossings.specs.Crossings.{S, lies}
 use Rattle.crossings.proofs.Fits.{fits-sum}
 use Rattle.crossings.proofs.Gathering.{added-sized}
-use borrow.Author.Needs.{needs}
 use Rattle.crossings.proofs.Gather.with.Statement.{statement}
 use Rattle.crossings.proofs.Gather.with.Tie as tie
 
