@@ -1,0 +1,151 @@
+// The checks 1 to 6 on one solid, in document 01's order.
+use crate::table;
+use points::Point;
+ghost use mathlib.Core.Path.{_≡_};
+ghost use mathlib.Core.List.{[]};
+ghost use Prim.Native.Nat.{_+_, _*_, _/_, _%_, _<_, _≤_};
+ghost use lib.ListN.{length};
+ghost use lib.Ieee.{isNan};
+ghost use Rattle.sums.specs.Lists.{any, upTo};
+ghost use Rattle.solids.specs.Solids as So;
+ghost use Rattle.solids.specs.Admission as Ad;
+ghost use Rattle.solids.specs.Refusals as Re;
+ghost use Rattle.solids.specs.Table as Ta;
+
+// A NaN, and nothing else, differs from itself.
+pub fn blank(x: f64) -> bool
+    ensures { λ r. ⌜ r ≡ isNan x ⌝ }
+{
+    x != x
+}
+
+pub fn beyond(x: f64) -> bool
+    ensures { λ r. ⌜ r ≡ Ad.beyond x ⌝ }
+{
+    if x > 1048576.0 { true } else { x < -1048576.0 }
+}
+
+// Check 3 (blanks) or check 4 (beyond the limit) of one coordinate.
+fn bad(blanks: bool, x: f64) -> bool
+    ensures { λ r. ⌜ r ≡ Ta.bad blanks x ⌝ }
+{
+    if blanks { blank(x) } else { beyond(x) }
+}
+
+fn some_bad(blanks: bool, points: &[f64]) -> bool
+    ensures { λ r. ⌜ r ≡ any (Ta.bad blanks) (now (points .entry)) ⌝ }
+{
+    let mut i = 0;
+    while i < points.len() {
+        if bad(blanks, points[i]) {
+            return true;
+        }
+        i += 1;
+    }
+    false
+}
+
+fn wide(x: u32) -> usize
+    ensures { λ r. ⌜ r ≡ x ⌝ }
+{
+    x as usize
+}
+
+fn too_high(n: usize, p: u32, q: u32, r: u32) -> bool
+    ensures { λ b. ⌜ b ≡ Ad.too-high n p q r ⌝ }
+{
+    if n <= wide(p) {
+        true
+    } else if n <= wide(q) {
+        true
+    } else {
+        n <= wide(r)
+    }
+}
+
+fn named_twice(p: u32, q: u32, r: u32) -> bool
+    ensures { λ b. ⌜ b ≡ Ad.named-twice p q r ⌝ }
+{
+    if p == q {
+        true
+    } else if q == r {
+        true
+    } else {
+        r == p
+    }
+}
+
+fn faulty(points: &[f64], corners: &[u32], f: usize) -> bool
+    requires { ⌜ f < length (now corners) / 3 ⌝ }
+    ensures { λ r. ⌜ r ≡ Ad.faulty (So.solid (now (points .entry)) (now (corners .entry))) f ⌝ }
+{
+    let p = corners[3 * f];
+    let q = corners[3 * f + 1];
+    let r = corners[3 * f + 2];
+    if too_high(points.len() / 3, p, q, r) {
+        true
+    } else {
+        named_twice(p, q, r)
+    }
+}
+
+fn some_faulty(points: &[f64], corners: &[u32]) -> bool
+    ensures { λ r. ⌜ r ≡ any (Ad.faulty (So.solid (now (points .entry)) (now (corners .entry)))) (upTo (length (now (corners .entry)) / 3)) ⌝ }
+{
+    let mut f = 0;
+    while f < corners.len() / 3 {
+        if faulty(points, corners, f) {
+            return true;
+        }
+        f += 1;
+    }
+    false
+}
+
+fn unmatched(corners: &[u32]) -> bool
+    requires { ⌜ Ta.Low (now corners) × (length (now corners) ≤ 768) ⌝ }
+    ensures { λ r. ⌜ r ≡ any (Ad.differ (So.half-edges (So.solid [] (now (corners .entry))))) (So.half-edges (So.solid [] (now (corners .entry)))) ⌝ }
+{
+    let mut counts = [0u16; 16384];
+    table::tally(&mut counts, corners);
+    table::some_differ(&counts, corners)
+}
+
+// The answer of admission: 0, or the number of the first check that refuses.
+pub fn admit(points: &[f64], corners: &[u32]) -> u32
+    ensures { λ r. ⌜ r ≡ Re.answer (Ad.admission (So.solid (now (points .entry)) (now (corners .entry)))) ⌝ }
+{
+    if points.len() % 3 != 0 {
+        return 1;
+    }
+    if corners.len() % 3 != 0 {
+        return 1;
+    }
+    if points.len() / 3 > 128 {
+        return 2;
+    }
+    if corners.len() / 3 > 256 {
+        return 2;
+    }
+    if some_bad(true, points) {
+        return 3;
+    }
+    if some_bad(false, points) {
+        return 4;
+    }
+    if some_faulty(points, corners) {
+        return 5;
+    }
+    if unmatched(corners) { 6 } else { 0 }
+}
+
+// The answer of a point's admission, by 3 and 4.
+pub fn admit_point(v: Point) -> u32
+    ensures { λ r. ⌜ r ≡ Re.answer (Ad.point-admission v) ⌝ }
+{
+    let list = [v.x, v.y, v.z];
+    if some_bad(true, &list) {
+        return 3;
+    }
+    if some_bad(false, &list) { 4 } else { 0 }
+}

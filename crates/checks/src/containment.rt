@@ -1,0 +1,126 @@
+// How often a solid contains a point, with the solid as A and as B.
+use crate::admission;
+use crossings::Facet;
+use points::Axis;
+use points::Point;
+use solids::Counted;
+ghost use mathlib.Core.Path.{_≡_};
+ghost use mathlib.Core.List.{[], _∷_};
+ghost use Prim.Native.Nat.{_+_, _*_, _/_, _<_, _≤_};
+ghost use lib.ListN.{length, getD};
+ghost use lib.IntN.{natAbs};
+ghost use Rattle.sums.specs.Lists.{sumOf, upTo};
+ghost use Rattle.solids.specs.Solids as So;
+ghost use Rattle.solids.specs.Admission as Ad;
+ghost use Rattle.solids.specs.Refusals as Re;
+ghost use Rattle.solids.specs.Containment as Co;
+ghost use Rattle.solids.specs.Table as Ta;
+
+pub fn vertex(points: &[f64], i: usize) -> Point
+    requires { ⌜ i < length (now points) / 3 ⌝ }
+    ensures { λ r. ⌜ r ≡ So.vertex (So.solid (now (points .entry)) []) i ⌝ }
+{
+    Point {
+        x: points[3 * i],
+        y: points[3 * i + 1],
+        z: points[3 * i + 2],
+    }
+}
+
+fn corner(points: &[f64], corners: &[u32], i: usize) -> Point
+    requires { ⌜ (i < length (now corners)) × Ta.Named (now points) (now corners) ⌝ }
+    ensures { λ r. ⌜ r ≡ So.vertex (So.solid (now (points .entry)) []) (getD (now (corners .entry)) i 0) ⌝ }
+{
+    let number = corners[i] as usize;
+    vertex(points, number)
+}
+
+pub fn facet(points: &[f64], corners: &[u32], f: usize) -> Facet
+    requires { ⌜ (f < length (now corners) / 3) × Ta.Named (now points) (now corners) ⌝ }
+    ensures { λ r. ⌜ r ≡ So.facet (So.solid (now (points .entry)) (now (corners .entry))) f ⌝ }
+{
+    let p = corners[3 * f];
+    let q = corners[3 * f + 1];
+    let r = corners[3 * f + 2];
+    Facet {
+        p: corner(points, corners, 3 * f),
+        q: corner(points, corners, 3 * f + 1),
+        r: corner(points, corners, 3 * f + 2),
+        pq: p < q,
+        qr: q < r,
+        rp: r < p,
+    }
+}
+
+fn facet_s(as_b: bool, v: Point, f: Facet) -> i32
+    ensures { λ r. ⌜ r ≡ Ta.facet-S «as_b» v f ⌝ }
+    ensures small { λ r. ⌜ natAbs r ≤ 1 ⌝ }
+{
+    if as_b {
+        crossings::vf(v, f).s(Axis::Z)
+    } else {
+        crossings::fv(f, v).s(Axis::Z)
+    }
+}
+
+// "sum S(vA,f)" over B's facets, or "sum S(f,vB)" over A's.
+fn sum_s(as_b: bool, v: Point, points: &[f64], corners: &[u32]) -> i32
+    requires { ⌜ Ta.Named (now points) (now corners) × (length (now corners) ≤ 768) ⌝ }
+    ensures { λ r. ⌜ r ≡ sumOf (λ f. Ta.facet-S «as_b» v (So.facet (So.solid (now (points .entry)) (now (corners .entry))) f)) (upTo (length (now (corners .entry)) / 3)) ⌝ }
+    ensures small { λ r. ⌜ natAbs r ≤ 256 ⌝ }
+{
+    let mut sum: i32 = 0;
+    let mut f = 0;
+    while f < corners.len() / 3 {
+        let of_facet = facet(points, corners, f);
+        sum = sum + facet_s(as_b, v, of_facet);
+        f += 1;
+    }
+    sum
+}
+
+// The point's answer, then the solid's.
+fn refusal(v: Point, points: &[f64], corners: &[u32]) -> u32
+    ensures { λ r. ⌜ r ≡ Re.answer (Re.in-order (Ad.point-admission v ∷ Ad.admission (So.solid (now (points .entry)) (now (corners .entry))) ∷ [])) ⌝ }
+{
+    let of_point = admission::admit_point(v);
+    if of_point != 0 {
+        return of_point;
+    }
+    admission::admit(points, corners)
+}
+
+// "X(vA,B)" or "X(A,vB)".
+fn contained(as_b: bool, v: Point, points: &[f64], corners: &[u32]) -> i32
+    requires { ⌜ Ta.Named (now points) (now corners) × (length (now corners) ≤ 768) ⌝ }
+    ensures { λ r. ⌜ r ≡ Ta.contained «as_b» v (So.solid (now (points .entry)) (now (corners .entry))) ⌝ }
+    ensures small { λ r. ⌜ natAbs r ≤ 256 ⌝ }
+{
+    let sum = sum_s(as_b, v, points, corners);
+    if as_b { sum } else { 0 - sum }
+}
+
+fn count_as(as_b: bool, v: Point, points: &[f64], corners: &[u32]) -> Counted
+    ensures { λ r. ⌜ r ≡ Ta.count-as «as_b» v (So.solid (now (points .entry)) (now (corners .entry))) ⌝ }
+{
+    let answer = refusal(v, points, corners);
+    if answer != 0 {
+        return Counted { answer, count: 0 };
+    }
+    Counted {
+        answer: 0,
+        count: contained(as_b, v, points, corners),
+    }
+}
+
+pub fn count_as_a(v: Point, points: &[f64], corners: &[u32]) -> Counted
+    ensures { λ r. ⌜ r ≡ Co.count-as-A v (So.solid (now (points .entry)) (now (corners .entry))) ⌝ }
+{
+    count_as(false, v, points, corners)
+}
+
+pub fn count_as_b(v: Point, points: &[f64], corners: &[u32]) -> Counted
+    ensures { λ r. ⌜ r ≡ Co.count-as-B v (So.solid (now (points .entry)) (now (corners .entry))) ⌝ }
+{
+    count_as(true, v, points, corners)
+}
