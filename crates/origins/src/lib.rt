@@ -1,0 +1,23 @@
+// What an origin shows: the facet's part of A's or of B's own corner list.
+ghost use mathlib.Core.Path.{_≡_};
+ghost use Rattle.results.specs.Origin as Or;
+
+// "an origin beyond both (facet counts rounded down) shows the empty front of A's"
+pub fn shown<'a>(a: &'a [u32], b: &'a [u32], origin: usize) -> &'a [u32]
+    ensures { λ r. ⌜ now r ≡ Or.shown (now (a .entry)) (now (b .entry)) origin ⌝ }
+{
+    let of_a = a.len() / 3;
+    let of_b = b.len() / 3;
+    if origin < of_a {
+        let start = 3 * origin;
+        let end = start + 3;
+        return &a[start..end];
+    }
+    let rest = origin - of_a;
+    if rest < of_b {
+        let start = 3 * rest;
+        let end = start + 3;
+        return &b[start..end];
+    }
+    &a[..0]
+}
