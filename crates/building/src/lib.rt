@@ -2,9 +2,7 @@
 // The table's slots are in listing order: A's vertices; edge of A with facet of B; facet of A with edge of B; B's vertices.
 mod boundary;
 mod ends;
-mod fan;
 mod lines;
-pub mod numbers;
 mod pairs;
 mod places;
 pub mod triangles;

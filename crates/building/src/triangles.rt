@@ -1,11 +1,11 @@
 // All triangles of a result: "A's facets come first, then B's", each with its origin, "A's facet number, or A's facet count plus B's".
 use crate::Sizes;
 use crate::boundary;
-use crate::fan;
+use laying::fan;
 ghost use mathlib.Core.Path.{_≡_};
 ghost use Prim.Native.Nat.{_≤_};
 ghost use lib.ListN.{length};
-ghost use Rattle.building.specs.Laid.{Laid};
+ghost use Rattle.laying.specs.Laid.{Laid};
 ghost use Rattle.building.specs.Table as T;
 
 // Stores the triangles as far as there is room, and answers how many there are: on lists without room it only counts. `list` is for one boundary.

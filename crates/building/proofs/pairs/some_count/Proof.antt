@@ -1,6 +1,6 @@
 -- `some_count` meets its contract: one count after the other.
 use mathlib.Core.Path.{_≡_, refl, _∙_}
-use mathlib.Core.Bool.{Bool, true, false}
+use mathlib.Core.Bool.{Bool, true, false, _||_}
 use borrow.Author.Needs.{needs}
 use Rattle.sums.specs.Lists.{any, nonzero}
 use Rattle.building.proofs.pairs.some_count.Statement.{statement}

@@ -10,10 +10,10 @@ use lib.ListN.{length}
 use Rattle.sums.specs.Lists.{upTo}
 use Rattle.sums.proofs.UpTo.{flat-upTo-suc}
 use Rattle.joining.proofs.Flat.{firsts-behind}
+use Rattle.laying.specs.Laid.{Laid}
+use Rattle.laying.proofs.Fans.{laid-none, laid-more, laid-long}
 use Rattle.building.specs.Table.{table, boundary, fan-of, triangles}
-use Rattle.building.specs.Laid.{Laid}
 use Rattle.building.proofs.Bound.{boundary-short}
-use Rattle.building.proofs.Fans.{laid-none, laid-more, laid-long}
 use Rattle.building.proofs.triangles.put_triangles.Statement.{statement}
 use Rattle.building.proofs.triangles.put_triangles.Tie as tie
 

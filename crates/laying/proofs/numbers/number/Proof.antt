@@ -10,9 +10,9 @@ use lib.ListN.{length, length-set, getD}
 use mir.Syntax.{w16}
 use mir.Val.{toZ, ofZ}
 use Rattle.sums.specs.Lists.{nonzero}
-use Rattle.building.proofs.Ranks.{Numbered, numbered-none, numbered-yes, numbered-no, numbered-all}
-use Rattle.building.proofs.numbers.number.Statement.{statement}
-use Rattle.building.proofs.numbers.number.Tie as tie
+use Rattle.laying.proofs.Ranks.{Numbered, numbered-none, numbered-yes, numbered-no, numbered-all}
+use Rattle.laying.proofs.numbers.number.Statement.{statement}
+use Rattle.laying.proofs.numbers.number.Tie as tie
 
 abbrev Inv-loop : tie.InvT-loop
 Inv-loop inc num₀ k₀ i₀ num k i = (i ≤ length inc) × (length num ≡ length num₀) × Numbered inc num k i

@@ -3,7 +3,7 @@ ghost use mathlib.Core.Path.{_≡_};
 ghost use Prim.Native.Nat.{_≤_};
 ghost use lib.ListN.{length};
 ghost use Rattle.sums.specs.Lists.{nonzero};
-ghost use Rattle.building.specs.Rank.{rank, ranks};
+ghost use Rattle.laying.specs.Rank.{rank, ranks};
 
 fn kept(inclusion: i16) -> bool
     ensures { λ r. ⌜ r ≡ nonzero inclusion ⌝ }

@@ -1,9 +1,9 @@
 -- `put_triangle` meets its contract: nothing is stored if a is p or q, else one triangle.
 use native.Mathlib.Omega.{arith}
 use borrow.Author.Needs.{needs}
-use Rattle.building.proofs.Fans.{fan-at-p, fan-at-q, fan-apart, laid-none, laid-one}
-use Rattle.building.proofs.fan.put_triangle.Statement.{statement}
-use Rattle.building.proofs.fan.put_triangle.Tie as tie
+use Rattle.laying.proofs.Fans.{fan-at-p, fan-at-q, fan-apart, laid-none, laid-one}
+use Rattle.laying.proofs.fan.put_triangle.Statement.{statement}
+use Rattle.laying.proofs.fan.put_triangle.Tie as tie
 
 returns : tie.Need-returns
 returns c = let a = c .before .before .before .args in rw (fan-at-p (a .origin) (a .a) (a .p) (a .q) (c .if1 .taken)) (laid-none (a .corners .now) (a .origins .now) (a .k), omega arith)

@@ -7,7 +7,7 @@ ghost use lib.ListN.{length, getD, take, set};
 ghost use Rattle.sums.specs.Lists.{least};
 ghost use Rattle.results.specs.Triangles.{fan};
 ghost use Rattle.joining.specs.Flat.{firsts};
-ghost use Rattle.building.specs.Laid.{fan-at, Laid};
+ghost use Rattle.laying.specs.Laid.{fan-at, Laid};
 
 // Stores where there is room.
 fn store(list: &mut [u32], at: usize, v: u32)

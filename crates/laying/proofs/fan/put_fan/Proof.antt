@@ -4,10 +4,10 @@ use native.Mathlib.Nat.{le-antisymm}
 use native.Mathlib.Omega.{arith}
 use borrow.Author.Needs.{needs}
 use Rattle.joining.specs.Flat.{firsts}
-use Rattle.building.specs.Laid.{fan-at, Laid}
-use Rattle.building.proofs.Fans.{laid-none, laid-more, laid-long, fan-first, fan-none, fan-start, fan-next}
-use Rattle.building.proofs.fan.put_fan.Statement.{statement}
-use Rattle.building.proofs.fan.put_fan.Tie as tie
+use Rattle.laying.specs.Laid.{fan-at, Laid}
+use Rattle.laying.proofs.Fans.{laid-none, laid-more, laid-long, fan-first, fan-none, fan-start, fan-next}
+use Rattle.laying.proofs.fan.put_fan.Statement.{statement}
+use Rattle.laying.proofs.fan.put_fan.Tie as tie
 
 abbrev Inv-loop : tie.InvT-loop
 Inv-loop list n origin corners₀ origins₀ at a k₀ i₀ corners origins k i = (i ≤ n) × (k ≤ at + i) × Laid (fan-at origin a (firsts list i)) corners₀ origins₀ at corners origins k

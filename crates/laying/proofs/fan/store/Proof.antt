@@ -2,8 +2,8 @@
 use mathlib.Core.Path.{sym}
 use borrow.Author.Needs.{needs}
 use lib.Seq.{set-out}
-use Rattle.building.proofs.fan.store.Statement.{statement}
-use Rattle.building.proofs.fan.store.Tie as tie
+use Rattle.laying.proofs.fan.store.Statement.{statement}
+use Rattle.laying.proofs.fan.store.Tie as tie
 
 mul-list : tie.Need-mul-list
 mul-list c = search needs

@@ -17,8 +17,8 @@ use Rattle.solids.specs.Solids.{Half}
 use Rattle.results.specs.Triangles.{Triangle, smallest, at-end, fan, corners-of}
 use Rattle.joining.specs.Flat.{flat, firsts}
 use Rattle.joining.proofs.Flat.{firsts-next, numbers-firsts}
-use Rattle.building.specs.Laid.{fan-at, origins-of, Laid}
-use Rattle.building.proofs.Lists.{keep-append, sets-append}
+use Rattle.laying.specs.Laid.{fan-at, origins-of, Laid}
+use Rattle.laying.proofs.Lists.{keep-append, sets-append}
 
 -- ---- the smallest number on a boundary
 smallest-number : (hs : List Half) → 0 < length hs → smallest hs ≡ least (getD (flat hs) 0 0) (flat hs)

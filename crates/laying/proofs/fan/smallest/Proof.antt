@@ -8,9 +8,9 @@ use borrow.Author.Needs.{needs}
 use lib.ListN.{length, getD, take}
 use lib.Seq.{take-suc}
 use Rattle.sums.specs.Lists.{least}
-use Rattle.building.proofs.Lists.{least-snoc}
-use Rattle.building.proofs.fan.smallest.Statement.{statement}
-use Rattle.building.proofs.fan.smallest.Tie as tie
+use Rattle.laying.proofs.Lists.{least-snoc}
+use Rattle.laying.proofs.fan.smallest.Statement.{statement}
+use Rattle.laying.proofs.fan.smallest.Tie as tie
 
 abbrev Inv-loop : tie.InvT-loop
 Inv-loop list m a₀ i₀ a i = (i ≤ m) × (a ≡ least (getD list 0 0) (take i list))
