@@ -1,0 +1,4 @@
+pub mod Ints
+pub mod Gather
+pub mod Slots
+pub mod Bound

@@ -1,0 +1,4 @@
+pub mod Flat
+pub mod Placing
+pub mod Sign
+pub mod Joined

@@ -1,0 +1,40 @@
+-- Words of contracts; no public statement needs them. Starts go to even places of a list, stops to odd ones, each side in its order, as far as
+-- there is room.
+use mathlib.Core.Bool.{cond}
+use mathlib.Core.List.{List, [], _∷_}
+use Prim.Native.Nat.{ℕ, zero, suc, _+_, _*_, _/_}
+use lib.Dec.{ltb}
+use lib.IntN.{pos}
+use lib.ListN.{length, set}
+use Rattle.sums.specs.Lists.{above, below}
+use Rattle.results.specs.declared.End.{End}
+use Rattle.joining.specs.declared.Counts.{Counts}
+
+-- what would stand beyond the ends
+abbrev pub blank : End
+blank = record { vertex = 0; count = pos 0 }
+
+-- the list, and the next piece on one side
+abbrev pub put-once : ℕ → ℕ → List ℕ × ℕ → List ℕ × ℕ
+put-once side v s = cond (ltb (s .1) (length (s .0) / 2)) (set (s .0) (2 * s .1 + side) v, s .1 + 1) s
+
+abbrev pub put-times : ℕ → ℕ → ℕ → List ℕ × ℕ → List ℕ × ℕ
+put-times side v zero s = s
+put-times side v (suc n) s = put-times side v n (put-once side v s)
+
+-- the list, and the next piece on each side
+abbrev pub with-stops : ℕ → List ℕ × ℕ → List ℕ × Counts
+with-stops k s = (s .0, record { starts = k; stops = s .1 })
+
+abbrev pub with-starts : ℕ → End → List ℕ × ℕ → List ℕ × Counts
+with-starts k e s = with-stops (s .1) (put-times 1 (e .vertex) (above (e .count)) (s .0, k))
+
+abbrev pub placed : List ℕ × Counts → End → List ℕ × Counts
+placed s e = with-starts (s .1 .stops) e (put-times 0 (e .vertex) (below (e .count)) (s .0, s .1 .starts))
+
+abbrev pub all-placed : List ℕ × Counts → List End → List ℕ × Counts
+all-placed s [] = s
+all-placed s (e ∷ es) = all-placed (placed s e) es
+
+abbrev pub joined : List End → List ℕ → List ℕ × Counts
+joined es l = all-placed (l, record { starts = 0; stops = 0 }) es

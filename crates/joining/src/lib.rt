@@ -1,0 +1,107 @@
+// The gathered ends of one composite edge, joined into pieces. A piece is two numbers of a list: where it starts and where it ends.
+use results::End;
+ghost use mathlib.Core.Path.{_≡_};
+ghost use Prim.Native.Nat.{_+_, _<_, _≤_};
+ghost use lib.ListN.{length, take};
+ghost use Rattle.sums.specs.Lists.{above, below};
+ghost use Rattle.results.specs.Pieces.{pieces};
+ghost use Rattle.joining.specs.Flat.{flat, Behind};
+ghost use Rattle.joining.specs.Placing as P;
+
+// How many starts and how many stops are placed.
+pub struct Counts {
+    pub starts: usize,
+    pub stops: usize,
+}
+
+// Puts `v` on one side of the k-th piece, where there is room.
+fn put_once(list: &mut [u32], side: usize, k: usize, v: u32) -> usize
+    requires { ⌜ side < 2 ⌝ }
+    ensures list { λ r. ⌜ now (list .exit) ≡ P.put-once side v (now (list .entry), k) .0 ⌝ }
+    ensures next { λ r. ⌜ r ≡ P.put-once side v (now (list .entry), k) .1 ⌝ }
+{
+    if k < list.len() / 2 {
+        let at = 2 * k + side;
+        list[at] = v;
+        return k + 1;
+    }
+    k
+}
+
+// Puts `v` n times, from the k-th piece on.
+fn put_times(list: &mut [u32], side: usize, k: usize, n: u32, v: u32) -> usize
+    requires { ⌜ side < 2 ⌝ }
+    ensures list { λ r. ⌜ now (list .exit) ≡ P.put-times side v n (now (list .entry), k) .0 ⌝ }
+    ensures next { λ r. ⌜ r ≡ P.put-times side v n (now (list .entry), k) .1 ⌝ }
+{
+    let mut at = k;
+    let mut i = 0;
+    while i < n {
+        at = put_once(list, side, at, v);
+        i += 1;
+    }
+    at
+}
+
+// "below 0 it is that many starts"
+fn starts_of(count: i32) -> u32
+    ensures { λ r. ⌜ r ≡ below count ⌝ }
+{
+    if count < 0 {
+        let wide = count as i64;
+        let n = -wide;
+        return n as u32;
+    }
+    0
+}
+
+// "a count n above 0 is n ends"
+fn stops_of(count: i32) -> u32
+    ensures { λ r. ⌜ r ≡ above count ⌝ }
+{
+    if count < 0 {
+        return 0;
+    }
+    count as u32
+}
+
+// The starts of an end go to one side of the pieces, its stops to the other.
+fn place_end(list: &mut [u32], c: Counts, e: End) -> Counts
+    ensures { λ r. ⌜ (now (list .exit) ≡ P.placed (now (list .entry), c) e .0) × (r ≡ P.placed (now (list .entry), c) e .1) ⌝ }
+{
+    let starts = put_times(list, 0, c.starts, starts_of(e.count), e.vertex);
+    let stops = put_times(list, 1, c.stops, stops_of(e.count), e.vertex);
+    Counts { starts, stops }
+}
+
+// The one walk over the gathered ends: the first n of them, in order.
+pub fn join_first(all: [End; 258], n: usize, list: &mut [u32]) -> Counts
+    requires { ⌜ n ≤ 258 ⌝ }
+    ensures { λ r. ⌜ (now (list .exit) ≡ P.joined (take n all) (now (list .entry)) .0) × (r ≡ P.joined (take n all) (now (list .entry)) .1) ⌝ }
+{
+    let mut c = Counts {
+        starts: 0,
+        stops: 0,
+    };
+    let mut i = 0;
+    while i < n {
+        c = place_end(list, c, all[i]);
+        i += 1;
+    }
+    c
+}
+
+// The pieces of the first n ends go behind the first `at` numbers of the list.
+pub fn join_at(all: [End; 258], n: usize, list: &mut [u32], at: usize) -> usize
+    requires { ⌜ n ≤ 258 ⌝ }
+    requires { ⌜ at + length (flat (pieces (take n all))) ≤ length (now list) ⌝ }
+    ensures { λ r. ⌜ Behind (flat (pieces (take n all))) (now (list .entry)) at (now (list .exit)) r ⌝ }
+{
+    let c = join_first(all, n, &mut list[at..]);
+    let s = c.starts;
+    let e = c.stops;
+    if s < e {
+        return at + 2 * s;
+    }
+    at + 2 * e
+}
