@@ -1,16 +1,17 @@
 -- Numbers as bytes, there and back: a number that fits, the bytes themselves, and an f64 with every bit but a NaN's.
 use mathlib.Core.Path.{_≡_, refl, ap, ap₂, _∙_, subst}
-use mathlib.Core.Bool.{false}
+use mathlib.Core.Bool.{true, false}
 use mathlib.Core.List.{List, [], _∷_, _++_}
-use Prim.Native.Nat.{ℕ, zero, suc, _+_, _*_, _/_, _%_, _^_, _<_, _≤_}
-use native.Mathlib.Nat.{mod-lt, mod-add-div}
+use Prim.Native.Nat.{ℕ, zero, suc, _+_, _-_, _*_, _/_, _%_, _^_, _<_, _≤_}
+use native.Mathlib.Nat.{mod-lt, mod-add-div, lt-of-lt-of-le, pow-le-pow-right}
 use native.Mathlib.Omega.{arith}
 use lib.Dec.{lit<}
-use lib.ListN.{length, take, drop, length-drop}
-use lib.Seq.{take-at, drop-at, take-append-le, drop-append-le, length-take-le}
-use lib.Ieee.{Float, binary64, ofBits, toBits, isNan}
+use lib.ListN.{length, getD, take, drop, length-drop}
+use lib.Seq.{drop-cons, take-at, drop-at, take-append-le, drop-append-le, length-take-le}
+use lib.Ieee.{Float, nan, inf, fin, binary64, ofBits, toBits, isNan, div}
 use lib.Ieee.Bits.{ofBits-toBits, toBits-lt, ofBits-fits, toBits-ofBits}
 use Rattle.sums.proofs.Sums.{All, all-take, all-drop}
+use Rattle.sums.proofs.Tests.{never}
 use Rattle.housefile.specs.Numbers.{number, number-at, float-at, bytes, float-bytes}
 use Rattle.housefile.specs.RoundTrip.{Byte, F64}
 
@@ -30,13 +31,13 @@ unfolding bytes
 all-bytes zero k = tt
 all-bytes (suc n) k = (mod-lt k (lit< tt), all-bytes n (k / 256))
 
+grown : (n b k : ℕ) → b < 256 → k < 256 ^ n → b + 256 * k < 256 ^ suc n
+grown n b k h l = omega arith
+
 pub number-lt : (bs : List ℕ) → All Byte bs → number bs < 256 ^ length bs
 unfolding number
 number-lt [] a = lit< tt
-number-lt (b ∷ bs) a = grown b (number bs) (length bs) (a .0) (number-lt bs (a .1))
-  where
-    grown : (b n k : ℕ) → b < 256 → n < 256 ^ k → b + 256 * n < 256 ^ suc k
-    grown b n k h l = omega arith
+number-lt (b ∷ bs) a = grown (length bs) b (number bs) (a .0) (number-lt bs (a .1))
 
 pub bytes-number : (bs : List ℕ) → All Byte bs → bytes (length bs) (number bs) ≡ bs
 unfolding number bytes
@@ -85,6 +86,25 @@ bytes-at i n bs a h =
     subst (λ k. bytes k (number (take n (drop i bs))) ≡ take n (drop i bs)) (length-part i n bs h)
     (bytes-number (take n (drop i bs)) (all-take Byte n (drop i bs) (all-drop Byte i bs a)))
 
+-- ---- read from the last byte to the first
+module _ (at n i : ℕ) (bs : List ℕ) (some : 0 < i) (within : i ≤ n) (room : at + n ≤ length bs) where
+  pub number-before : number-at (at + (i - 1)) (n - (i - 1)) bs ≡ getD bs (at + (i - 1)) 0 + 256 * number-at (at + i) (n - i) bs
+  unfolding number-at number
+  number-before =
+      let e : n - (i - 1) ≡ suc (n - i) = omega arith in
+      let f : at + i ≡ suc (at + (i - 1)) = omega arith in
+      let h : at + (i - 1) < length bs = omega arith in
+      rw (e, f, drop-cons bs (at + (i - 1)) 0 h)
+
+  pub before-lt : {b k : ℕ} → b < 256 → k < 256 ^ (n - i) → b + 256 * k < 256 ^ (n - (i - 1))
+  before-lt {b} {k} h l =
+      let e : n - (i - 1) ≡ suc (n - i) = omega arith in
+      rw e (grown (n - i) b k h l)
+
+-- up to 8 bytes
+pub fits-8 : (n : ℕ) {k : ℕ} → n ≤ 8 → k < 256 ^ n → k < 2 ^ 64
+fits-8 n {k} h l = lt-of-lt-of-le l (pow-le-pow-right (lit< tt) h)
+
 -- ---- f64
 pub length-float-bytes : (x : Float) → length (float-bytes x) ≡ 8
 unfolding float-bytes
@@ -99,6 +119,17 @@ pub float-there : (i : ℕ) (x : Float) (front rest : List ℕ) → length front
 unfolding float-at float-bytes
 float-there i x front rest l h =
     ap (ofBits binary64) (number-there i 8 (toBits binary64 x) front rest l (toBits-lt binary64 x h)) ∙ ofBits-toBits binary64 x h
+
+-- there is one NaN
+pub the-nan : (x : Float) → isNan x ≡ true → x ≡ nan
+unfolding isNan
+the-nan nan e = refl
+the-nan (inf s) e = absurd (never (isNan (inf s)) e refl)
+the-nan (fin s m k) e = absurd (never (isNan (fin s m k)) e refl)
+
+pub zero-by-zero : div binary64 (ofBits binary64 0) (ofBits binary64 0) ≡ nan
+unfolding ofBits div
+zero-by-zero = refl
 
 pub float-fits : (i : ℕ) (bs : List ℕ) → F64 (float-at i bs)
 unfolding float-at

@@ -9,7 +9,7 @@ use lib.Dec.{leb, eqb, lit<}
 use lib.ListN.{length, take, drop, length-append, take-append-drop}
 use lib.Seq.{drop-at, take-add, length-take-le}
 use lib.Ieee.{Float, isNan}
-use borrow.Author.Tests.{leb-true, eqb-true, le-leb, eq-eqb}
+use borrow.Author.Tests.{leb-true, eqb-true, le-leb, lt-leb, eq-eqb, ne-eqb}
 use Rattle.sums.proofs.Sums.{All, all-++, all-flatMap}
 use Rattle.sums.proofs.Tests.{and-true}
 use Rattle.points.specs.declared.Point.{Point}
@@ -53,7 +53,7 @@ abbrev pub vertex-at : List ℕ → Point
 vertex-at bs = record { x = float-at 2 bs; y = float-at 10 bs; z = float-at 18 bs }
 
 -- do bs begin with a mark and have n bytes
-abbrev marked : List ℕ → ℕ → List ℕ → Bool
+abbrev pub marked : List ℕ → ℕ → List ℕ → Bool
 marked mark n bs = eqb (number-at 0 2 bs) (number mark) && leb n (length bs)
 
 abbrev pub Begins : List ℕ → Record → Type 0
@@ -88,8 +88,22 @@ module _ (bs : List ℕ) where
   marked-is : (mark : List ℕ) (n : ℕ) → number-at 0 2 bs ≡ number mark → n ≤ length bs → marked mark n bs ≡ true
   marked-is mark n e h = rw (e, eq-eqb (number mark) (number mark) refl, le-leb n (length bs) h)
 
-  marked-not : (mark other : List ℕ) (n : ℕ) → number-at 0 2 bs ≡ number mark → eqb (number mark) (number other) ≡ false → marked other n bs ≡ false
+  pub marked-not : (mark other : List ℕ) (n : ℕ) → number-at 0 2 bs ≡ number mark → eqb (number mark) (number other) ≡ false → marked other n bs ≡ false
   marked-not mark other n e d = rw (e, d)
+
+  pub too-few : (mark : List ℕ) (n : ℕ) → length bs < n → marked mark n bs ≡ false
+  too-few mark n h = rw (lt-leb n (length bs) h) (and-false (eqb (number-at 0 2 bs) (number mark)))
+    where
+      and-false : (b : Bool) → b && false ≡ false
+      and-false true = refl
+      and-false false = refl
+
+  pub other-mark : (mark : List ℕ) (n : ℕ) → (number-at 0 2 bs ≡ number mark → ⊥) → marked mark n bs ≡ false
+  other-mark mark n d = rw (ne-eqb (number-at 0 2 bs) (number mark) d)
+
+  pub unmarked : marked mark-VX 26 bs ≡ false → marked mark-FC 14 bs ≡ false → marked mark-EN 2 bs ≡ false → decoded bs ≡ Fault
+  unfolding decoded
+  unmarked a b c = rw (a, b, c, decoded)
 
   pub begins-decoded : (r : Record) → Known r → Begins bs r → decoded bs ≡ r
   unfolding decoded number
@@ -171,6 +185,10 @@ room : (r : Record) (rest : List ℕ) → size r ≤ length (encoded r ++ rest)
 room r rest = rw (length-append, length-encoded r) (omega arith)
 
 -- the bytes of a mark and three parts, and behind them the rest
+pub vx-parts : (v : Point) → encoded (Vx v) ≡ mark-VX ++ (float-bytes (v .x) ++ (float-bytes (v .y) ++ float-bytes (v .z)))
+unfolding encoded flatMap
+vx-parts v = simp append-nil
+
 vx-bytes : (v : Point) (rest : List ℕ)
     → encoded (Vx v) ++ rest ≡ mark-VX ++ (float-bytes (v .x) ++ (float-bytes (v .y) ++ (float-bytes (v .z) ++ rest)))
 unfolding encoded flatMap

@@ -4,7 +4,7 @@ use mathlib.Core.Path.{_≡_, refl, ap, _∙_}
 use mathlib.Core.Logic.{_≢_}
 use mathlib.Core.Bool.{Bool, true, false}
 use mathlib.Core.List.{List, [], _∷_}
-use Prim.Native.Nat.{ℕ, suc, _<_, _≤_}
+use Prim.Native.Nat.{ℕ, suc, _%_, _<_, _≤_}
 use native.Mathlib.Omega.{arith}
 use lib.ListN.{length}
 use lib.Dec.{ltb}
@@ -117,25 +117,25 @@ write-refusal s lent = by-case (in-order (admission s ∷ given 8 (ltb (length l
     by-case (refused n) d = refl
 
 -- ---- answer 0 is success: no check refuses with the number 0
-abbrev Numbered : Verdict → Type 0
+abbrev pub Numbered : Verdict → Type 0
 Numbered v = answer v ≡ 0 → v ≡ accepted
 
-in-order-numbered : (vs : List Verdict) → All Numbered vs → Numbered (in-order vs)
+pub in-order-numbered : (vs : List Verdict) → All Numbered vs → Numbered (in-order vs)
 unfolding in-order
 in-order-numbered [] a e = refl
 in-order-numbered (accepted ∷ vs) a e = in-order-numbered vs (a .1) e
 in-order-numbered (refused n ∷ vs) a e = a .0 e
 
-given-numbered : (n : ℕ) (b : Bool) → Numbered (given (suc n) b)
+pub given-numbered : (n : ℕ) (b : Bool) → Numbered (given (suc n) b)
 given-numbered n true e = absurd (omega arith)
 given-numbered n false e = refl
 
 module _ (s : Solid) where
-  later-checks : List Verdict
+  abbrev pub later-checks : List Verdict
   later-checks = check-blanks (s .points) ∷ check-limit (s .points) ∷ check-corners s ∷ check-closure s ∷ []
 
   later-numbered : All Numbered later-checks
-  unfolding later-checks check-blanks check-limit check-corners check-closure
+  unfolding check-blanks check-limit check-corners check-closure
   later-numbered = (
     given-numbered 2 (any isNan (s .points)),
     (
@@ -144,14 +144,14 @@ module _ (s : Solid) where
     ),
   )
 
-  admission-numbered : Numbered (admission s)
-  unfolding admission check-lengths check-sizes later-checks
+  pub admission-numbered : Numbered (admission s)
+  unfolding admission check-lengths check-sizes
   admission-numbered =
       in-order-numbered (check-lengths s ∷ check-sizes s ∷ later-checks)
       (given-numbered 0 (uneven s), (given-numbered 1 (too-many s), later-numbered))
 
   read-solid-numbered : (ps : List Float) (cs : List ℕ) → Numbered (read-solid s ps cs)
-  unfolding read-solid check-sizes later-checks
+  unfolding read-solid check-sizes
   read-solid-numbered ps cs =
       in-order-numbered (check-sizes s ∷ given 8 (too-short ps cs s) ∷ later-checks)
       (given-numbered 1 (too-many s), (given-numbered 7 (too-short ps cs s), later-numbered))
@@ -187,6 +187,10 @@ write-success s lent e =
     checked (refused n) e = e
 
 -- ---- the reader's checks and admission: of lists of whole threes they differ by 8 alone
+pub even : (s : Solid) → length (s .points) % 3 ≡ 0 → length (s .corners) % 3 ≡ 0 → uneven s ≡ false
+unfolding uneven
+even s p c = rw (p, c)
+
 module _ (s : Solid) (ps : List Float) (cs : List ℕ) where
   pub long-enough : length (s .points) ≤ length ps → length (s .corners) ≤ length cs → too-short ps cs s ≡ false
   unfolding too-short
@@ -197,6 +201,10 @@ module _ (s : Solid) (ps : List Float) (cs : List ℕ) where
   not-too-short e =
       let r = or-false (ltb (length ps) (length (s .points))) (ltb (length cs) (length (s .corners))) e in
       (ltb-false _ _ (r .0), ltb-false _ _ (r .1))
+
+  pub read-as-admission : uneven s ≡ false → too-many s ≡ false → too-short ps cs s ≡ false → read-solid s ps cs ≡ admission s
+  unfolding admission read-solid check-lengths check-sizes in-order
+  read-as-admission e1 e2 e8 = rw (e1, e2, e8)
 
   pub admitted-read : admission s ≡ accepted → too-short ps cs s ≡ false → read-solid s ps cs ≡ accepted
   unfolding admission read-solid

@@ -13,7 +13,7 @@ use Rattle.sums.proofs.Sums.{All, all-of, all-flatMap, all-of-flatMap}
 use Rattle.points.specs.Points.{coordinates}
 use Rattle.solids.specs.Refusals.{accepted}
 use Rattle.solids.specs.Solids.{Solid, vertices, facets}
-use Rattle.solids.specs.Admission.{uneven, admission}
+use Rattle.solids.specs.Admission.{admission}
 use Rattle.solids.proofs.Admitted.{passed}
 use Rattle.housefile.specs.Reader.{Reading, laid, layout, reading, by-layout, read}
 use Rattle.housefile.specs.Writer.{Writing, file, write}
@@ -21,7 +21,7 @@ use Rattle.housefile.specs.RoundTrip.{Byte, F64, solid-read, RoundTrip}
 use Rattle.housefile.proofs.Grammar.{Follows, follows-layout, layout-follows}
 use Rattle.housefile.proofs.Files.{follows-within, follows-alone, follows-bytes, file-written, follows-storable}
 use Rattle.housefile.proofs.Shown.{Shows, shown, shown-whole, shown-file, storable-vertices, storable-facets}
-use Rattle.housefile.proofs.Refusals.{read-checked, write-else, read-success, write-success, long-enough, not-too-short, admitted-read, read-admitted}
+use Rattle.housefile.proofs.Refusals.{read-checked, write-else, read-success, write-success, even, long-enough, not-too-short, admitted-read, read-admitted}
 
 -- ---- written, then read
 module _ (s : Solid) (fine : admission s ≡ accepted) (held : All F64 (s .points)) where
@@ -82,10 +82,6 @@ pub record Accepted (bs : List ℕ) (ps : List Float) (cs : List ℕ) : Type 0 w
   pub left : solid-read (read bs ps cs) ≡ solid
   pub within : used ≤ length bs
   pub bytes : file solid ≡ take used bs
-
-even : (s : Solid) → length (s .points) % 3 ≡ 0 → length (s .corners) % 3 ≡ 0 → uneven s ≡ false
-unfolding uneven
-even s p c = rw (p, c)
 
 module _ (bs : List ℕ) (all : All Byte bs) where
   pub accepted-file : (ps : List Float) (cs : List ℕ) → (read bs ps cs) .answer ≡ 0 → Accepted bs ps cs

@@ -10,6 +10,7 @@ use Rattle.points.specs.Points.{coordinates}
 use Rattle.solids.specs.Refusals.{Verdict, accepted, refused, given, in-order}
 use Rattle.solids.specs.Solids.{Solid, vertices, facets}
 use Rattle.solids.specs.Admission.{check-sizes, check-blanks, check-limit, check-corners, check-closure}
+use Rattle.housefile.specs.declared.Read.{Read}
 use Rattle.housefile.specs.declared.Record.{Record}
 use Rattle.housefile.specs.declared.Record.the-variants.{Vx, Fc, En, Fault}
 use Rattle.housefile.specs.Records.{size, decoded}
@@ -52,6 +53,10 @@ pub record Reading : Type 0 where
   pub used : ℕ
   pub points : List Float
   pub corners : List ℕ
+
+-- what a call answered, with the lent lists as they then are
+abbrev pub outcome : Read → List Float → List ℕ → Reading
+outcome r ps cs = record { answer = r .answer; vertices = r .vertices; facets = r .facets; used = r .used; points = ps; corners = cs }
 
 abbrev pub unread : ℕ → List Float → List ℕ → Reading
 unread n ps cs = record { answer = n; vertices = 0; facets = 0; used = 0; points = ps; corners = cs }

@@ -7,6 +7,7 @@ use Rattle.sums.specs.Lists.{upTo, onto}
 use Rattle.solids.specs.Refusals.{Verdict, accepted, refused, given, in-order}
 use Rattle.solids.specs.Solids.{Solid, vertices, facets, vertex, corner}
 use Rattle.solids.specs.Admission.{admission}
+use Rattle.housefile.specs.declared.Written.{Written}
 use Rattle.housefile.specs.declared.Record.the-variants.{Vx, Fc, En}
 use Rattle.housefile.specs.Records.{encoded}
 
@@ -20,6 +21,10 @@ pub record Writing : Type 0 where
   pub answer : ℕ
   pub used : ℕ
   pub bytes : List ℕ
+
+-- what a call answered, with the lent bytes as they then are
+abbrev pub outcome : Written → List ℕ → Writing
+outcome r bs = record { answer = r .answer; used = r .used; bytes = bs }
 
 abbrev pub unwritten : ℕ → List ℕ → Writing
 unwritten n old = record { answer = n; used = 0; bytes = old }

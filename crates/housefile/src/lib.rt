@@ -1,10 +1,39 @@
-// The record that a part of a house file begins with.
+// House files: a solid as bytes. Numbers stand low byte first.
 use points::Point;
 
-// A vertex, a facet's three vertex numbers, the end, or no record that the layout knows.
+mod coding;
+mod number;
+pub mod reader;
+pub mod writer;
+
+// The record that a part of a house file begins with: a vertex, a facet's three vertex numbers, the end, or none that the layout knows.
 pub enum Record {
     Vx(Point),
     Fc(u32, u32, u32),
     En,
     Fault,
+}
+
+// The answer of a reading, 0 or a refusal's number; how many vertices and facets were read, and how many bytes that took.
+pub struct Read {
+    pub answer: u32,
+    pub vertices: usize,
+    pub facets: usize,
+    pub used: usize,
+}
+
+// The answer of a writing, 0 or a refusal's number, and how many bytes were written.
+pub struct Written {
+    pub answer: u32,
+    pub used: usize,
+}
+
+// How far a reader has walked over a file's records: whether there are more to come, whether the layout is broken, the bytes walked over and
+// how many vertices and facets stood there.
+pub struct Walk {
+    pub going: bool,
+    pub fault: bool,
+    pub used: usize,
+    pub vertices: usize,
+    pub facets: usize,
 }
