@@ -1,8 +1,8 @@
 // The writer: a solid's file put into lent bytes.
 use crate::Written;
 use crate::coding;
-use solids::admission;
-use solids::containment;
+use checks::admission;
+use checks::containment;
 ghost use mathlib.Core.Path.{_≡_};
 ghost use mathlib.Core.Bool.{false};
 ghost use mathlib.Core.List.{[], flatMap};
