@@ -1,13 +1,9 @@
 pub mod Numbers
 pub mod Records
-pub mod Stores
 pub mod Following
 pub mod Steps
-pub mod Walks
 pub mod Grammar
 pub mod Files
 pub mod Shown
-pub mod Blanks
 pub mod Refusals
-pub mod Outcomes
 pub mod RoundTrip

@@ -3,4 +3,3 @@ pub mod Records
 pub mod Reader
 pub mod Writer
 pub mod RoundTrip
-pub mod Walking

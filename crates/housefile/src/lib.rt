@@ -1,11 +1,6 @@
 // House files: a solid as bytes. Numbers stand low byte first.
 use points::Point;
 
-mod coding;
-mod number;
-pub mod reader;
-pub mod writer;
-
 // The record that a part of a house file begins with: a vertex, a facet's three vertex numbers, the end, or none that the layout knows.
 pub enum Record {
     Vx(Point),
@@ -26,14 +21,4 @@ pub struct Read {
 pub struct Written {
     pub answer: u32,
     pub used: usize,
-}
-
-// How far a reader has walked over a file's records: whether there are more to come, whether the layout is broken, the bytes walked over and
-// how many vertices and facets stood there.
-pub struct Walk {
-    pub going: bool,
-    pub fault: bool,
-    pub used: usize,
-    pub vertices: usize,
-    pub facets: usize,
 }

@@ -1,0 +1,4 @@
+pub mod Stores
+pub mod Walks
+pub mod Blanks
+pub mod Outcomes

@@ -1,0 +1,129 @@
+-- What the two calls answer. The reader's 9, 2 and 8 by the numbers that a walk found, and past them the solid's admission; the writer's admission,
+-- then 8 by the length of the file. A verdict is known from its number.
+use mathlib.Core.Path.{_≡_, refl, sym, ap, ap₂, _∙_, subst}
+use mathlib.Core.Bool.{false, _||_}
+use mathlib.Core.List.{List, [], _∷_, _++_}
+use Prim.Native.Nat.{ℕ, _+_, _*_, _≤_}
+use native.Mathlib.Nat.{zero-add}
+use native.Mathlib.Omega.{arith}
+use lib.ListN.{length, take, length-take}
+use lib.Seq.{sets}
+use lib.Dec.{ltb}
+use lib.Ieee.{Float}
+use borrow.Author.Tests.{ltb-false}
+use Rattle.sums.specs.Lists.{onto}
+use Rattle.sums.proofs.Sums.{All}
+use Rattle.sums.proofs.Tests.{never, or-false}
+use Rattle.solids.specs.Refusals.{Verdict, accepted, refused, answer, in-order}
+use Rattle.solids.specs.Solids.{Solid, solid, vertices, facets, vertex, corner}
+use Rattle.solids.specs.Admission.{too-many, check-sizes, admission}
+use Rattle.solids.proofs.Orders.{all-accepted, not-given}
+use Rattle.files.specs.declared.Walk.{Walk}
+use Rattle.housefile.specs.declared.Record.{Record}
+use Rattle.housefile.specs.declared.Record.the-variants.{Vx, Fc, En}
+use Rattle.housefile.specs.Records.{encoded}
+use Rattle.housefile.specs.Reader.{Layout, fault, laid, unread, reading, too-short, read-solid, by-layout}
+use Rattle.housefile.specs.Writer.{file}
+use Rattle.files.specs.Walking.{Found, Scanned, many, short, by-numbers, refusal, handed-over, vertex-part, facet-part}
+use Rattle.files.proofs.Stores.{sets-onto, sets-three, length-run}
+use Rattle.housefile.proofs.Records.{length-encoded}
+use Rattle.housefile.proofs.Refusals.{Numbered, later-checks, in-order-numbered, given-numbered, even, read-as-admission}
+
+-- ---- by the number
+pub refused-by : (v : Verdict) (n : ℕ) → n ≡ answer v → (n ≡ 0 → ⊥) → v ≡ refused n
+refused-by accepted n e d = absurd (d e)
+refused-by (refused k) n e d = ap refused (sym e)
+
+early : (vs ws : List Verdict) → (answer (in-order vs) ≡ 0 → ⊥) → in-order (vs ++ ws) ≡ refused (answer (in-order vs))
+unfolding in-order
+early [] ws d = absurd (d refl)
+early (accepted ∷ vs) ws d = early vs ws d
+early (refused n ∷ vs) ws d = refl
+
+there : {A : Type 0} (n : ℕ) (l : List A) → length (take n l) ≡ n → n ≤ length l
+there n l e = omega (arith, e, length-take n l)
+
+-- ---- the reader, by the numbers that a walk found
+module _ (w : Walk) (kept-points : List Float) (kept-corners : List ℕ) (ps : List Float) (cs : List ℕ) where
+  module _ (used : ℕ) (xs : List Float) (ds : List ℕ) (f : Found w used xs ds kept-points kept-corners) where
+    found-vertices : vertices (solid xs ds) ≡ w .vertices
+    found-vertices = omega (arith, f .points-long)
+
+    found-facets : facets (solid xs ds) ≡ w .facets
+    found-facets = omega (arith, f .corners-long)
+
+    too-many-found : too-many (solid xs ds) ≡ many w
+    unfolding too-many
+    too-many-found = ap₂ (λ n m. ltb 128 n || ltb 256 m) found-vertices found-facets
+
+    too-short-found : too-short ps cs (solid xs ds) ≡ short w (length ps) (length cs)
+    unfolding too-short
+    too-short-found = ap₂ (λ n m. ltb (length ps) n || ltb (length cs) m) (f .points-long) (f .corners-long)
+
+    checks-found : read-solid (solid xs ds) ps cs ≡ in-order (by-numbers w (length ps) (length cs) ++ later-checks (solid xs ds))
+    unfolding read-solid check-sizes in-order
+    checks-found = rw (f .sound, too-many-found, too-short-found)
+
+  pub refused-by-numbers : (l : Layout) → Scanned l w kept-points kept-corners → (refusal w (length ps) (length cs) ≡ 0 → ⊥)
+      → unread (refusal w (length ps) (length cs)) ps cs ≡ by-layout l ps cs
+  unfolding refusal in-order
+  refused-by-numbers fault e d = rw e
+  refused-by-numbers (laid used xs ds) f d =
+      sym (ap (λ v. reading v used (solid xs ds) ps cs) (checks-found used xs ds f ∙ early (by-numbers w (length ps) (length cs)) (later-checks (solid xs ds)) d))
+
+  -- past them, the solid in the fronts of what was kept
+  pub record Past (l : Layout) : Type 0 where
+    pub few-vertices : w .vertices ≤ 128
+    pub few-facets : w .facets ≤ 256
+    pub points-there : 3 * w .vertices ≤ length kept-points
+    pub corners-there : 3 * w .facets ≤ length kept-corners
+    pub points-room : 3 * w .vertices ≤ length ps
+    pub corners-room : 3 * w .facets ≤ length cs
+    pub rest : by-layout l ps cs ≡ handed-over (solid (take (3 * w .vertices) kept-points) (take (3 * w .facets) kept-corners)) (w .used) ps cs
+
+  passes : refusal w (length ps) (length cs) ≡ 0 → (w .fault ≡ false) × (many w ≡ false) × (short w (length ps) (length cs) ≡ false)
+  unfolding refusal
+  passes z =
+      let numbered : All Numbered (by-numbers w (length ps) (length cs)) = (given-numbered 8 (w .fault), (given-numbered 1 (many w), (given-numbered 7 (short w (length ps) (length cs)), tt))) in
+      let (c9, (c2, (c8, end))) = all-accepted _ (in-order-numbered (by-numbers w (length ps) (length cs)) numbered z) in
+      (not-given _ _ c9, not-given _ _ c2, not-given _ _ c8)
+
+  pub past : (l : Layout) → Scanned l w kept-points kept-corners → refusal w (length ps) (length cs) ≡ 0 → Past l
+  past fault e z = absurd (never (w .fault) e (passes z .0))
+  past (laid used xs ds) f z =
+      let s : Solid = solid xs ds in
+      let (n9, n2, n8) = passes z in
+      let (no-v, no-f) = or-false (ltb 128 (w .vertices)) (ltb 256 (w .facets)) n2 in
+      let (no-p, no-c) = or-false (ltb (length ps) (3 * w .vertices)) (ltb (length cs) (3 * w .facets)) n8 in
+      let few-v : w .vertices ≤ 128 = ltb-false _ _ no-v in
+      let few-f : w .facets ≤ 256 = ltb-false _ _ no-f in
+      let long-p : length xs ≡ 3 * w .vertices = f .points-long in
+      let long-c : length ds ≡ 3 * w .facets = f .corners-long in
+      let front-p : take (3 * w .vertices) kept-points ≡ xs = subst (λ n. take n kept-points ≡ xs) long-p (f .points-held (omega arith)) in
+      let front-c : take (3 * w .facets) kept-corners ≡ ds = subst (λ n. take n kept-corners ≡ ds) long-c (f .corners-held (omega arith)) in
+      let same : read-solid s ps cs ≡ admission s =
+      read-as-admission s ps cs (even s (omega arith) (omega arith)) (too-many-found used xs ds f ∙ n2) (too-short-found used xs ds f ∙ n8) in
+      record {
+        few-vertices = few-v;
+        few-facets = few-f;
+        points-there = there (3 * w .vertices) kept-points (ap length front-p ∙ long-p);
+        corners-there = there (3 * w .facets) kept-corners (ap length front-c ∙ long-c);
+        points-room = ltb-false _ _ no-p;
+        corners-room = ltb-false _ _ no-c;
+        rest =
+            ap₂ (λ v n. reading v n s ps cs) same (sym (f .all-used))
+            ∙ sym (λ i. reading (admission (solid (front-p i) (front-c i))) (w .used) (solid (front-p i) (front-c i)) ps cs);
+      }
+
+-- ---- the writer: the three parts of a file, each where the one before it ended
+pub file-put : (s : Solid) (old : List ℕ) → length (file s) ≤ length old
+    → sets (sets (sets old 0 (vertex-part s)) (26 * vertices s) (facet-part s)) (26 * vertices s + 14 * facets s) (encoded En) ≡ onto (file s) old
+unfolding file vertex-part facet-part
+file-put s old h =
+    sets-three old 0 (26 * vertices s) (26 * vertices s + 14 * facets s) (vertex-part s) (facet-part s) (encoded En)
+    (zero-add (length (vertex-part s)) ∙ length-run (λ i. encoded (Vx (vertex s i))) 26 (λ i. length-encoded (Vx (vertex s i))) (vertices s))
+    (ap (λ n. 26 * vertices s + n) (length-run (λ f. encoded (facet f)) 14 (λ f. length-encoded (facet f)) (facets s)))
+    ∙ sets-onto old (file s) h
+  where
+    facet : ℕ → Record
+    facet f = Fc (corner s f 0) (corner s f 1) (corner s f 2)

@@ -1,0 +1,67 @@
+// The writer: a solid's file put into lent bytes.
+use crate::coding;
+use checks::admission;
+use checks::containment;
+use housefile::Written;
+ghost use mathlib.Core.Path.{_≡_};
+ghost use mathlib.Core.Bool.{false};
+ghost use mathlib.Core.List.{[], flatMap};
+ghost use Prim.Native.Nat.{_+_, _*_, _/_, _≤_};
+ghost use lib.ListN.{length};
+ghost use lib.Seq.{sets};
+ghost use lib.Ieee.{isNan};
+ghost use Rattle.sums.specs.Lists.{any};
+ghost use Rattle.solids.specs.Solids as So;
+ghost use Rattle.housefile.specs.Records as Rc;
+ghost use Rattle.housefile.specs.Writer as Wr;
+ghost use Rattle.files.specs.Walking as Wa;
+
+fn put_vertices(points: &[f64], bytes: &mut [u8])
+    requires { ⌜ (26 * (length (now points) / 3) ≤ length (now bytes)) × (any isNan (now points) ≡ false) ⌝ }
+    ensures { λ _. ⌜ now (bytes .exit) ≡ sets (now (bytes .entry)) 0 (Wa.vertex-part (So.solid (now (points .entry)) [])) ⌝ }
+{
+    let mut i = 0;
+    while i < points.len() / 3 {
+        coding::put_vertex(containment::vertex(points, i), bytes, 26 * i);
+        i += 1;
+    }
+}
+
+fn put_facets(corners: &[u32], bytes: &mut [u8], at: usize)
+    requires { ⌜ at + 14 * (length (now corners) / 3) ≤ length (now bytes) ⌝ }
+    ensures { λ _. ⌜ now (bytes .exit) ≡ sets (now (bytes .entry)) at (Wa.facet-part (So.solid [] (now (corners .entry)))) ⌝ }
+{
+    let mut f = 0;
+    while f < corners.len() / 3 {
+        coding::put_facet(
+            corners[3 * f],
+            corners[3 * f + 1],
+            corners[3 * f + 2],
+            bytes,
+            at + 14 * f,
+        );
+        f += 1;
+    }
+}
+
+// The checks 1 to 6, then 8; nothing is written before all have passed.
+pub fn write(points: &[f64], corners: &[u32], bytes: &mut [u8]) -> Written
+    ensures { λ r. ⌜ Wr.outcome r (now (bytes .exit)) ≡ Wr.write (So.solid (now (points .entry)) (now (corners .entry))) (now (bytes .entry)) ⌝ }
+{
+    let answer = admission::admit(points, corners);
+    if answer != 0 {
+        return Written { answer, used: 0 };
+    }
+    let facets_at = 26 * (points.len() / 3);
+    let end_at = facets_at + 14 * (corners.len() / 3);
+    if bytes.len() < end_at + 2 {
+        return Written { answer: 8, used: 0 };
+    }
+    put_vertices(points, bytes);
+    put_facets(corners, bytes, facets_at);
+    coding::put_end(bytes, end_at);
+    Written {
+        answer: 0,
+        used: end_at + 2,
+    }
+}
