@@ -1,3 +1,1 @@
-pub mod Rank
-pub mod Laid
 pub mod Table

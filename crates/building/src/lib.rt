@@ -1,9 +1,11 @@
 // From a table of everything that can become a vertex, with its inclusion and its number in the result, to the result's triangles.
 // The table's slots are in listing order: A's vertices; edge of A with facet of B; facet of A with edge of B; B's vertices.
+mod boundary;
 mod ends;
-mod fan;
-pub mod numbers;
+mod lines;
+mod pairs;
 mod places;
+pub mod triangles;
 
 // How many vertices, edges and facets A and B have.
 pub struct Sizes {

@@ -1,0 +1,151 @@
+-- `pair_pieces` meets its contract: the six ends, each negated if the pieces are to be turned round, are joined unless all counts are 0.
+use mathlib.Core.Path.{_≡_, sym, ap, _∙_, subst}
+use mathlib.Core.List.{List, [], _∷_, map}
+use Prim.Native.Nat.{_+_, _≤_}
+use native.Mathlib.Omega.{arith}
+use borrow.Author.Needs.{needs}
+use lib.ListN.{length}
+use Rattle.solids.specs.Solids.{Half}
+use Rattle.results.specs.Pieces.{pieces}
+use Rattle.joining.proofs.Flat.{behind-none}
+use Rattle.joining.specs.Flat.{flat, Behind}
+use Rattle.building.specs.Table.{table, pair-ends, flip, turn}
+use Rattle.building.proofs.Gather.{turn-pieces, quiet-pieces}
+use Rattle.building.proofs.pairs.pair_pieces.Statement.{statement}
+use Rattle.building.proofs.pairs.pair_pieces.Tie as tie
+
+-- the six ends
+six : (c : tie.After-b-end3) → let a = c .before .before .before .before .before .before .before .before .before .before .args in
+    (c .before .before .before .before .before .a-end .result ∷ c .before .before .before .before .a-end2 .result ∷ c .before .before .before .a-end3 .result ∷ c .before .before .b-end .result ∷ c .before .b-end2 .result ∷ c .b-end3 .result ∷ [])
+    ≡ map (flip (a .turn)) (pair-ends (table (a .inc .now) (a .num .now)) (a .halves .now) (a .z) (a .f) (a .g))
+unfolding pair-ends
+six c = rw (c .before .before .before .before .before .a-end .ensures, c .before .before .before .before .a-end2 .ensures, c .before .before .before .a-end3 .ensures, c .before .before .b-end .ensures, c .before .b-end2 .ensures, c .b-end3 .ensures)
+
+six-pieces : (c : tie.After-b-end3) → let a = c .before .before .before .before .before .before .before .before .before .before .args in
+    pieces (c .before .before .before .before .before .a-end .result ∷ c .before .before .before .before .a-end2 .result ∷ c .before .before .before .a-end3 .result ∷ c .before .before .b-end .result ∷ c .before .b-end2 .result ∷ c .b-end3 .result ∷ [])
+    ≡ turn (a .turn) (pieces (pair-ends (table (a .inc .now) (a .num .now)) (a .halves .now) (a .z) (a .f) (a .g)))
+six-pieces c = let a = c .before .before .before .before .before .before .before .before .before .before .args in ap pieces (six c) ∙ turn-pieces (a .turn) (pair-ends (table (a .inc .now) (a .num .now)) (a .halves .now) (a .z) (a .f) (a .g))
+
+add-m : tie.Need-add-m
+add-m c = search needs
+
+mul-a-end : tie.Need-mul-a-end
+mul-a-end c = search needs
+
+a-end-requires : tie.Need-a-end-requires
+a-end-requires c κs = search needs
+
+mul-a-end-2 : tie.Need-mul-a-end-2
+mul-a-end-2 c = search needs
+
+add-a-end : tie.Need-add-a-end
+add-a-end c = search needs
+
+a-end-requires-2 : tie.Need-a-end-requires-2
+a-end-requires-2 c κs = search needs
+
+mul-a-end-3 : tie.Need-mul-a-end-3
+mul-a-end-3 c = search needs
+
+add-a-end-2 : tie.Need-add-a-end-2
+add-a-end-2 c = search needs
+
+a-end-requires-3 : tie.Need-a-end-requires-3
+a-end-requires-3 c κs = search needs
+
+mul-b-end : tie.Need-mul-b-end
+mul-b-end c = let s = c .before .before .before .before .before .before .before in record { fits = omega (arith, s .pre .0 .0 .halves .sized .fa, s .pre .0 .0 .halves .sized .fb, s .pre .0 .1, s .pre .0 .2) }
+
+b-end-requires : tie.Need-b-end-requires
+b-end-requires c κs = let s = c .before .before .before .before .before .before .before in (s .pre .0 .0, s .pre .0 .1, omega arith, omega (arith, s .pre .0 .2))
+
+mul-b-end-2 : tie.Need-mul-b-end-2
+mul-b-end-2 c = let s = c .before .before .before .before .before .before .before .before in record { fits = omega (arith, s .pre .0 .0 .halves .sized .fa, s .pre .0 .0 .halves .sized .fb, s .pre .0 .1, s .pre .0 .2) }
+
+add-b-end : tie.Need-add-b-end
+add-b-end c = let s = c .before .before .before .before .before .before .before .before in record { fits = omega (arith, s .pre .0 .0 .halves .sized .fa, s .pre .0 .0 .halves .sized .fb, s .pre .0 .1, s .pre .0 .2) }
+
+b-end-requires-2 : tie.Need-b-end-requires-2
+b-end-requires-2 c κs = let s = c .before .before .before .before .before .before .before .before in (s .pre .0 .0, s .pre .0 .1, omega arith, omega (arith, s .pre .0 .2))
+
+mul-b-end-3 : tie.Need-mul-b-end-3
+mul-b-end-3 c = let s = c .before .before .before .before .before .before .before .before .before in record { fits = omega (arith, s .pre .0 .0 .halves .sized .fa, s .pre .0 .0 .halves .sized .fb, s .pre .0 .1, s .pre .0 .2) }
+
+add-b-end-2 : tie.Need-add-b-end-2
+add-b-end-2 c = let s = c .before .before .before .before .before .before .before .before .before in record { fits = omega (arith, s .pre .0 .0 .halves .sized .fa, s .pre .0 .0 .halves .sized .fb, s .pre .0 .1, s .pre .0 .2) }
+
+b-end-requires-3 : tie.Need-b-end-requires-3
+b-end-requires-3 c κs = let s = c .before .before .before .before .before .before .before .before .before in (s .pre .0 .0, s .pre .0 .1, omega arith, omega (arith, s .pre .0 .2))
+
+some-count-requires : tie.Need-some-count-requires
+some-count-requires c κs = search needs
+
+array-set-from-all : tie.Need-array-set-from-all
+array-set-from-all c = search needs
+
+array-set-from-all-2 : tie.Need-array-set-from-all-2
+array-set-from-all-2 c = search needs
+
+array-set-from-all-3 : tie.Need-array-set-from-all-3
+array-set-from-all-3 c = search needs
+
+array-set-from-all-4 : tie.Need-array-set-from-all-4
+array-set-from-all-4 c = search needs
+
+array-set-from-all-5 : tie.Need-array-set-from-all-5
+array-set-from-all-5 c = search needs
+
+array-set-from-all-6 : tie.Need-array-set-from-all-6
+array-set-from-all-6 c = search needs
+
+join-at-requires : tie.Need-join-at-requires
+join-at-requires c κs = let s = c .before .before .before .before .before .before .before .before .before .before .before .before .before in (omega arith, subst (λ (ps : List Half). s .args .at + length (flat ps) ≤ length (s .args .list .now)) (sym (six-pieces (c .before .before .before))) (s .pre .1))
+
+same-length : tie.Need-same-length
+same-length c = search needs
+
+returns : tie.Need-returns
+returns c =
+    let j = c .before .before .join-at in
+    let a = c .before .before .before .before .before .before .before .before .before .before .before .before .before .before .before .before .args in
+    subst (λ (ps : List Half). Behind (flat ps) (a .list .now) (a .at) (j .last .1 .1 .0) (j .result)) (six-pieces (c .before .before .before .before .before .before)) (j .ensures)
+
+returns-2 : tie.Need-returns-2
+returns-2 c =
+    let a = c .before .before .before .before .before .before .before .before .before .before .before .before .args in
+    let d = c .before .before in
+    let q = sym (six-pieces d) ∙ quiet-pieces _ (sym (c .before .some-count .ensures) ∙ c .if1 .left) in
+    rw q (behind-none (a .list .now) (a .at))
+
+pub pair-pieces-spec : {M : Type 1} → statement M
+pair-pieces-spec =
+    tie.close
+    (tie.spec
+    add-m
+    mul-a-end
+    a-end-requires
+    mul-a-end-2
+    add-a-end
+    a-end-requires-2
+    mul-a-end-3
+    add-a-end-2
+    a-end-requires-3
+    mul-b-end
+    b-end-requires
+    mul-b-end-2
+    add-b-end
+    b-end-requires-2
+    mul-b-end-3
+    add-b-end-2
+    b-end-requires-3
+    some-count-requires
+    array-set-from-all
+    array-set-from-all-2
+    array-set-from-all-3
+    array-set-from-all-4
+    array-set-from-all-5
+    array-set-from-all-6
+    join-at-requires
+    same-length
+    returns
+    returns-2)

@@ -1,0 +1,4 @@
+pub mod Lists
+pub mod Ints
+pub mod Ranks
+pub mod Fans
