@@ -1,15 +1,14 @@
 -- For passed solids the table and the list of half-edges are as `put_triangles` asks, and its triangles are the result's.
-use mathlib.Core.Path.{_≡_, refl, sym, ap, _∙_, subst}
-use mathlib.Core.List.{List, map}
+use mathlib.Core.Path.{_≡_, sym, ap, _∙_, subst}
 use Prim.Native.Nat.{ℕ, zero, suc, _+_, _*_, _-_, _<_, _≤_}
-use native.Mathlib.Nat.{le-refl, mul-one}
+use native.Mathlib.Nat.{mul-one}
 use native.Mathlib.Omega.{arith}
 use native.Mathlib.Decide.{decLt}
-use lib.IntN.{ℤ, pos, negsuc, negℤ, natAbs, one, _+ℤ_, _*ℤ_, *ℤ-comm, *ℤ-one, zero-*ℤ}
+use lib.IntN.{ℤ, pos, negsuc, negℤ, one, _+ℤ_, _*ℤ_, *ℤ-comm, *ℤ-one, zero-*ℤ}
 use lib.ListN.{length, getD, length-map, List·getD-eq-default}
 use Rattle.sums.specs.Lists.{upTo, sumOf}
-use Rattle.sums.proofs.Integers.{Bnd, bnd-add, bnd-neg, bnd-mono, neg-mul}
-use Rattle.sums.proofs.Sums.{All, all-of, bnd-sum}
+use Rattle.sums.proofs.Integers.{Bnd, bnd-add, bnd-neg, neg-mul}
+use Rattle.sums.proofs.Sums.{all-of, bnd-sum}
 use Rattle.sums.proofs.UpTo.{length-upTo}
 use Rattle.points.specs.declared.Axis.the-variants.{Z}
 use Rattle.points.specs.declared.Point.{Point}
@@ -28,7 +27,7 @@ use Rattle.tables.specs.Filled.{sizes, inclusions, numbers, filled, halv
 use Rattle.tables.proofs.Lists.{at-map}
 use Rattle.tables.proofs.Room.{edges-room}
 use Rattle.tables.proofs.Keys.{no-key, length-keys, at-crossing}
-use Rattle.tables.proofs.Halves.{half-at, reads-A, reads-B, length-halves, known}
+use Rattle.tables.proofs.Halves.{reads-A, reads-B, length-halves, known}
 use Rattle.tables.proofs.Same.{same-triangles}
 
 -- ---- sizes of inclusions

@@ -1,12 +1,12 @@
 -- Keys by their slots, and that no key is listed twice.
-use mathlib.Core.Path.{_≡_, sym, ap, _∙_}
+use mathlib.Core.Path.{_≡_, ap, _∙_}
 use mathlib.Core.Logic.{_≢_}
 use mathlib.Core.List.{List, _++_, map, flatMap, append-assoc}
 use Prim.Native.Nat.{ℕ, _+_, _*_, _<_, _≤_}
 use native.Mathlib.Omega.{arith}
 use lib.ListN.{length, getD, length-append, length-map, List·getD-append}
 use Rattle.sums.specs.Lists.{upTo}
-use Rattle.sums.proofs.Sums.{All, all-of, all-at, all-mono, all-++, all-map-of, all-flatMap}
+use Rattle.sums.proofs.Sums.{All, all-of, all-mono, all-++, all-map-of, all-flatMap}
 use Rattle.sums.proofs.UpTo.{Distinct, Apart, distinct-++, distinct-map, distinct-blocks, apart-maps, distinct-upTo, length-upTo}
 use Rattle.solids.specs.Solids.{Solid, Half, vertices, facets, edges}
 use Rattle.solids.proofs.Shut.{edges-distinct}

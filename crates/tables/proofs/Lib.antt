@@ -5,3 +5,4 @@ pub mod Numbers
 pub mod Halves
 pub mod Same
 pub mod Good
+pub mod Use

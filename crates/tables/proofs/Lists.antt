@@ -1,19 +1,19 @@
 -- Places in lists: of a mapped list, of the numbers below n, of blocks of one length, of an element in a list in which nothing stands twice.
-use mathlib.Core.Path.{_≡_, refl, sym, ap, ap₂, _∙_, subst}
+use mathlib.Core.Path.{_≡_, refl, sym, ap, _∙_, subst}
 use mathlib.Core.Logic.{_≢_, _⊎_, inl, inr}
 use mathlib.Core.Bool.{Bool, true, false, cond}
 use mathlib.Core.List.{List, [], _∷_, _++_, map, flatMap, map-map, append-assoc, append-nil, List·Memᴰ, List·Memᴰ·head, List·Memᴰ·tail, List·Memᴰ·cases-cons, List·Memᴰ·not-nil}
-use Prim.Native.Nat.{ℕ, zero, suc, _+_, _*_, _<_, _≤_}
+use Prim.Native.Nat.{ℕ, zero, suc, _+_, _*_, _<_}
 use native.Mathlib.Nat.{add-zero, add-suc}
 use native.Mathlib.Omega.{arith}
 use native.Mathlib.Decide.{decLt}
 use lib.Dec.{T}
-use lib.ListN.{length, getD, take, length-append, length-map, List·getD-append, List·getD-map, List·getD-eq-default}
+use lib.ListN.{length, getD, take, length-append, length-map, List·getD-append, List·getD-map}
 use lib.Seq.{getD-append-add, getD-at}
 use Rattle.sums.specs.Lists.{upTo, keep, before}
 use Rattle.sums.proofs.Sums.{All, all-at, getD-within}
 use Rattle.sums.proofs.Tests.{T-of}
-use Rattle.sums.proofs.UpTo.{Distinct, length-upTo, upTo-first, map-upTo-suc, flat-upTo-suc}
+use Rattle.sums.proofs.UpTo.{Distinct, length-upTo, upTo-first, flat-upTo-suc}
 
 -- ---- an element by its place
 module _ {A : Type 0} where

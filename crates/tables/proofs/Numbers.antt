@@ -1,8 +1,7 @@
 -- The number of a slot is the number of its key: nothing is listed twice, so what stands before a key's place is what is listed before the key.
 use mathlib.Core.Path.{_≡_, sym, ap, _∙_}
-use mathlib.Core.List.{List, map}
+use mathlib.Core.List.{map}
 use Prim.Native.Nat.{ℕ, _<_}
-use native.Mathlib.Nat.{le-refl}
 use lib.IntN.{ℤ}
 use lib.ListN.{length, getD, take, length-map}
 use lib.Seq.{take-length}

@@ -2,18 +2,18 @@
 use mathlib.Core.Path.{_≡_, refl, sym, ap, _∙_}
 use mathlib.Core.Logic.{_≢_, _⊎_, inl, inr}
 use mathlib.Core.Bool.{Bool, true, false}
-use mathlib.Core.List.{List, [], _∷_, flatMap, List·Memᴰ}
+use mathlib.Core.List.{List, [], _∷_}
 use Prim.Native.Nat.{ℕ, _+_, _*_, _<_, _≤_}
 use native.Mathlib.Omega.{arith}
 use lib.Dec.{eqb, eqb→eq, eqb-refl}
 use lib.ListN.{length}
 use Rattle.sums.specs.Lists.{upTo, one-if, times, turned}
-use Rattle.sums.proofs.Sums.{All, all-at, all-mono}
+use Rattle.sums.proofs.Sums.{All, all-mono}
 use Rattle.sums.proofs.Tests.{T-of}
 use Rattle.sums.proofs.UpTo.{Distinct, length-upTo}
 use Rattle.sums.proofs.Closed.{same-half-sound}
 use Rattle.sums.proofs.Threes.{length-threes}
-use Rattle.solids.specs.Solids.{Solid, Half, facets, same-half, facet-half-edges, half-edges, number-of, edges, corner}
+use Rattle.solids.specs.Solids.{Solid, Half, facets, same-half, half-edges, number-of, edges, corner}
 use Rattle.solids.proofs.Admitted.{Passed}
 use Rattle.solids.proofs.Shut.{Is-edge, all-edges, edges-distinct}
 

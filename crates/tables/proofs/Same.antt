@@ -3,19 +3,19 @@ use mathlib.Core.Path.{_≡_, refl, sym, ap, ap₂, _∙_}
 use mathlib.Core.Bool.{Bool, true, false, not, cond}
 use mathlib.Core.List.{List, [], _∷_, _++_, map, flatMap, map-map, append-nil}
 use Prim.Native.Nat.{ℕ, _+_, _*_, _-_, _<_, _≤_}
-use native.Mathlib.Nat.{add-zero, zero-mul}
+use native.Mathlib.Nat.{zero-mul}
 use native.Mathlib.Omega.{arith}
 use borrow.Author.Tests.{lt-ltb, le-ltb}
 use lib.IntN.{ℤ, pos, negℤ, negℤ-negℤ}
 use lib.ListN.{length, getD}
 use Rattle.sums.specs.Lists.{upTo, turned}
 use Rattle.sums.proofs.UpTo.{map-upTo, flat-upTo}
-use Rattle.solids.specs.Solids.{Solid, Half, facets, corner, facet-half-edges, edges, along, edge-of, signed}
+use Rattle.solids.specs.Solids.{Solid, Half, facets, facet-half-edges, along, edge-of, signed}
 use Rattle.solids.proofs.Admitted.{Passed}
 use Rattle.results.specs.declared.End.{End}
 use Rattle.results.specs.Inclusion.{Key, vA, eAfB, fAeB, vB}
 use Rattle.results.specs.Vertices.{keys}
-use Rattle.results.specs.Pieces.{SignedEnd, plain, minus, signed-as, ends-along, ends-of-eA, ends-of-fAfB, ends-of-eB, gathered, pieces, as-half}
+use Rattle.results.specs.Pieces.{SignedEnd, plain, ends-of-eA, ends-of-fAfB, ends-of-eB, gathered, pieces, as-half}
 use Rattle.results.specs.Triangles.{fan, pieces-of-eA, pieces-of-fAfB, pieces-of-eB, boundary-A, boundary-B, triangles}
 use Rattle.building.specs.declared.Sizes.{Sizes}
 use Rattle.building.specs.Table as T
@@ -23,7 +23,7 @@ use Rattle.building.proofs.Slots.{edge-in, facet-in}
 use Rattle.tables.specs.Filled.{sizes, edge-number, halves}
 use Rattle.tables.proofs.Lists.{at-map, flat-upTo-add}
 use Rattle.tables.proofs.Keys.{no-key, no-half, length-keys, key-vA, key-eAfB, key-fAeB, key-vB}
-use Rattle.tables.proofs.Halves.{half-at, facet-half, Reads, reads-A, reads-B, Known, known}
+use Rattle.tables.proofs.Halves.{half-at, facet-half, reads-A, reads-B, known}
 
 -- ---- signs
 -- a half-edge's pieces are its edge's, turned round if it runs against it

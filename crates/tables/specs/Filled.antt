@@ -7,7 +7,7 @@ use lib.ListN.{length}
 use Rattle.sums.specs.Lists.{before, one-if}
 use Rattle.solids.specs.Solids.{Solid, Half, vertices, facets, same-half, half-edges, edges, along, edge-of}
 use Rattle.results.specs.declared.Operation.{Operation}
-use Rattle.results.specs.Inclusion.{Key, inclusion}
+use Rattle.results.specs.Inclusion.{inclusion}
 use Rattle.results.specs.Vertices.{keys, number}
 use Rattle.building.specs.declared.Sizes.{Sizes}
 use Rattle.building.specs.Table.{Table, table}
