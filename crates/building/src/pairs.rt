@@ -4,7 +4,7 @@ use crate::ends;
 use crate::places;
 use results::End;
 ghost use mathlib.Core.Path.{_≡_};
-ghost use mathlib.Core.Bool.{not};
+ghost use mathlib.Core.Bool.{not, _||_};
 ghost use mathlib.Core.List.{[], _∷_};
 ghost use Prim.Native.Nat.{_+_, _*_, _<_, _≤_};
 ghost use lib.ListN.{length};
@@ -40,25 +40,18 @@ fn b_end(inc: &[i16], num: &[u32], halves: &[u32], z: Sizes, f: usize, h: usize,
     ends::end_at(inc, num, k, alike(turn, !t))
 }
 
+fn either(a: bool, b: bool) -> bool
+    ensures { λ r. ⌜ r ≡ (a || b) ⌝ }
+{
+    if a { true } else { b }
+}
+
 fn some_count(a: End, b: End, c: End, d: End, e: End, f: End) -> bool
     ensures { λ r. ⌜ r ≡ T.some-count (a ∷ b ∷ c ∷ d ∷ e ∷ f ∷ []) ⌝ }
 {
-    if ends::counts(a) {
-        return true;
-    }
-    if ends::counts(b) {
-        return true;
-    }
-    if ends::counts(c) {
-        return true;
-    }
-    if ends::counts(d) {
-        return true;
-    }
-    if ends::counts(e) {
-        return true;
-    }
-    ends::counts(f)
+    let of_a = either(ends::counts(a), either(ends::counts(b), ends::counts(c)));
+    let of_b = either(ends::counts(d), either(ends::counts(e), ends::counts(f)));
+    either(of_a, of_b)
 }
 
 // The six ends are joined; `turn` turns each piece round. Where all six counts are 0 there is nothing to join.

@@ -16,7 +16,7 @@ use Rattle.solids.specs.Solids.{Solid, Half, vertices, facets, corner, same-hal
 use Rattle.solids.proofs.Admitted.{Passed, Between}
 use Rattle.solids.proofs.Shut.{Is-edge, all-edges, mem-edges, between}
 use Rattle.building.specs.Table.{edge-at, against}
-use Rattle.tables.specs.Filled.{edge-number, half-numbers, half-list, halves}
+use Rattle.tables.specs.Filled.{edge-number, half-first, half-numbers, half-list, halves}
 use Rattle.tables.proofs.Lists.{mem-getD, getD-behind, getD-upTo, place-at}
 use Rattle.tables.proofs.Keys.{no-half}
 use Rattle.tables.proofs.Room.{length-half-edges}
@@ -38,14 +38,14 @@ module _ (s : Solid) where
   length-half-list =
       omega (
         arith,
-        length-threes (λ h. 2 * edge-number s (edge-of h) + one-if (not (along h))) (λ h. edge-of h .0) (λ h. edge-of h .1) (half-edges s),
+        length-threes (half-first s) (λ h. edge-of h .0) (λ h. edge-of h .1) (half-edges s),
         length-half-edges s,
       )
 
   three-at : (h j : ℕ) → h < 3 * facets s → j < 3 → getD (half-list s) (3 * h + j) 0 ≡ getD (half-numbers s (half-at s h)) j 0
   unfolding half-list
   three-at h j k l =
-      getD-threes (λ h. 2 * edge-number s (edge-of h) + one-if (not (along h))) (λ h. edge-of h .0) (λ h. edge-of h .1) (half-edges s) no-half 0 h j (omega (arith, length-half-edges s)) l
+      getD-threes (half-first s) (λ h. edge-of h .0) (λ h. edge-of h .1) (half-edges s) no-half 0 h j (omega (arith, length-half-edges s)) l
 
 -- half-edge h of the list hs is k of solid s
 pub record Reads (s : Solid) (hs : List ℕ) (h : ℕ) (k : Half) : Type 0 where
@@ -56,7 +56,7 @@ pub record Reads (s : Solid) (hs : List ℕ) (h : ℕ) (k : Half) : Type 0 where
 
 reads : (s : Solid) (hs : List ℕ) (h : ℕ) (k : Half) → ((j : ℕ) → j < 3 → getD hs (3 * h + j) 0 ≡ getD (half-numbers s k) j 0) → Reads s hs h k
 reads s hs h k f =
-    let first : getD hs (3 * h) 0 ≡ 2 * edge-number s (edge-of k) + one-if (not (along k)) = ap (λ n. getD hs n 0) (sym (add-zero (3 * h))) ∙ f 0 (omega arith) in
+    let first : getD hs (3 * h) 0 ≡ half-first s k = ap (λ n. getD hs n 0) (sym (add-zero (3 * h))) ∙ f 0 (omega arith) in
     record {
       edge = ap (λ n. n / 2) first ∙ half (edge-number s (edge-of k)) (not (along k));
       way = ap (λ n. eqb (n % 2) 1) first ∙ rest (edge-number s (edge-of k)) (not (along k));

@@ -33,8 +33,11 @@ abbrev pub edge-number : Solid → Half → ℕ
 edge-number s e = length (before same-half e (edges s))
 
 -- twice its edge's number, and 1 more if it runs against it; the edge's start; its end
+abbrev pub half-first : Solid → Half → ℕ
+half-first s h = 2 * edge-number s (edge-of h) + one-if (not (along h))
+
 abbrev pub half-numbers : Solid → Half → List ℕ
-half-numbers s h = (2 * edge-number s (edge-of h) + one-if (not (along h))) ∷ edge-of h .0 ∷ edge-of h .1 ∷ []
+half-numbers s h = half-first s h ∷ edge-of h .0 ∷ edge-of h .1 ∷ []
 
 unfoldable pub half-list : Solid → List ℕ
 half-list s = flatMap (half-numbers s) (half-edges s)

@@ -30,7 +30,8 @@ returns c =
     let s = t .before .before .before .before .before .before in
     let start = s .before .before .before .before .before in
     let fits : SFits w32 (start .args .e .count) = record { sfits = s .before .before .struct-told .given .1 .0 .1 } in
-    placed-by _ _ (start .args .e) _ _ _ _ _ _ (s .before .starts-of .ensures ∙ ap below (toZ-ofZ w32 (start .args .e .count) fits)) (t .before .stops-of .ensures ∙ ap above (toZ-ofZ w32 (start .args .e .count) fits)) (s .put-times .ensures) (t .put-times2 .ensures)
+    let back = toZ-ofZ w32 (start .args .e .count) fits in
+    placed-by _ _ (start .args .e) _ _ _ _ _ _ (s .before .starts-of .ensures ∙ ap below back) (t .before .stops-of .ensures ∙ ap above back) (s .put-times .ensures) (t .put-times2 .ensures)
 
 pub place-end-spec : {M : Type 1} → statement M
 place-end-spec = tie.close (tie.spec starts-of-requires put-times-requires stops-of-requires put-times-requires-2 same-length returns)

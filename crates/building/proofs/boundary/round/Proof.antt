@@ -36,7 +36,10 @@ add-half-pieces : tie.Need-add-half-pieces
 add-half-pieces c = search needs
 
 half-pieces-requires-2 : tie.Need-half-pieces-requires-2
-half-pieces-requires-2 c κs = let s = c .before .before .before .before .before .before .before .before in let h = c .before .before .before .half-pieces in ((s .pre .0 .0, omega (arith, s .pre .0 .1)), omega (arith, room s, h .ensures .next, h .kept .1 .1 .1 .1 .1 .0))
+half-pieces-requires-2 c κs =
+    let h = c .before .before .before in
+    let s = h .before .before .before .before .before in
+    ((s .pre .0 .0, omega (arith, s .pre .0 .1)), omega (arith, room s, h .half-pieces .ensures .next, h .half-pieces .kept .1 .1 .1 .1 .1 .0))
 
 mul-half-pieces-3 : tie.Need-mul-half-pieces-3
 mul-half-pieces-3 c = search needs
@@ -45,14 +48,26 @@ add-half-pieces-2 : tie.Need-add-half-pieces-2
 add-half-pieces-2 c = search needs
 
 half-pieces-requires-3 : tie.Need-half-pieces-requires-3
-half-pieces-requires-3 c κs = let s = c .before .before .before .before .before .before .before .before .before .before .before .before in let h = c .before .before .before .before .before .before .before .half-pieces in let g = c .before .before .before .half-pieces2 in ((s .pre .0 .0, omega (arith, s .pre .0 .1)), omega (arith, room s, h .ensures .next, h .kept .1 .1 .1 .1 .1 .0, g .ensures .next, g .kept .1 .1 .1 .1 .1 .0))
+half-pieces-requires-3 c κs =
+    let g = c .before .before .before in
+    let h = g .before .before .before .before in
+    let s = h .before .before .before .before .before in
+    let e = h .half-pieces in
+    let d = g .half-pieces2 in
+    ((s .pre .0 .0, omega (arith, s .pre .0 .1)), omega (arith, room s, e .ensures .next, e .kept .1 .1 .1 .1 .1 .0, d .ensures .next, d .kept .1 .1 .1 .1 .1 .0))
 
 same-length : tie.Need-same-length
 same-length c = search needs
 
 returns : tie.Need-returns
 unfolding round
-returns c = let s = c .before .before .before .before .before .before .before .before .before .before .before .before .before .before .before in let x = s .args .x in behind-more (H s (3 * x)) (H s (3 * x + 1) ++ H s (3 * x + 2)) (c .before .before .before .before .before .before .before .before .before .before .half-pieces .ensures) (behind-more (H s (3 * x + 1)) (H s (3 * x + 2)) (c .before .before .before .before .before .before .half-pieces2 .ensures) (c .before .before .half-pieces3 .ensures))
+returns c =
+    let g = c .before .before .before .before .before .before in
+    let h = g .before .before .before .before in
+    let s = h .before .before .before .before .before in
+    let x = s .args .x in
+    behind-more (H s (3 * x)) (H s (3 * x + 1) ++ H s (3 * x + 2)) (h .half-pieces .ensures)
+    (behind-more (H s (3 * x + 1)) (H s (3 * x + 2)) (g .half-pieces2 .ensures) (c .before .before .half-pieces3 .ensures))
 
 pub round-spec : {M : Type 1} → statement M
 round-spec =

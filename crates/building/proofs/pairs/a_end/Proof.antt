@@ -28,7 +28,11 @@ end-at-requires c κs =
     (g .ok, rw (c .before .before .on-edge .ensures, c .before .before .before .edge-of .ensures, g .size) (omega (arith, k)))
 
 returns : tie.Need-returns
-returns c = let a = c .before .before .before .before .before .before .before .args in let z = a .z in c .end-at .ensures ∙ rw (c .before .alike .ensures, c .before .before .against .ensures, c .before .before .before .on-edge .ensures, c .before .before .before .before .edge-of .ensures) (flip-a (a .turn) (against (a .halves .now) (a .h)) (end (table (a .inc .now) (a .num .now)) (on-edge z (edge-at (a .halves .now) (a .h)) (a .g))))
+returns c =
+    let a = c .before .before .before .before .before .before .before .args in
+    c .end-at .ensures
+    ∙ rw (c .before .alike .ensures, c .before .before .against .ensures, c .before .before .before .on-edge .ensures, c .before .before .before .before .edge-of .ensures)
+    (flip-a (a .turn) (against (a .halves .now) (a .h)) (end (table (a .inc .now) (a .num .now)) (on-edge (a .z) (edge-at (a .halves .now) (a .h)) (a .g))))
 
 pub a-end-spec : {M : Type 1} → statement M
 a-end-spec =

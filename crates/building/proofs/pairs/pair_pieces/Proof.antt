@@ -6,6 +6,7 @@ use native.Mathlib.Omega.{arith}
 use borrow.Author.Needs.{needs}
 use lib.ListN.{length}
 use Rattle.solids.specs.Solids.{Half}
+use Rattle.results.specs.declared.End.{End}
 use Rattle.results.specs.Pieces.{pieces}
 use Rattle.joining.proofs.Flat.{behind-none}
 use Rattle.joining.specs.Flat.{flat, Behind}
@@ -14,17 +15,26 @@ use Rattle.building.proofs.Gather.{turn-pieces, quiet-pieces}
 use Rattle.building.proofs.pairs.pair_pieces.Statement.{statement}
 use Rattle.building.proofs.pairs.pair_pieces.Tie as tie
 
--- the six ends
-six : (c : tie.After-b-end3) → let a = c .before .before .before .before .before .before .before .before .before .before .args in
-    (c .before .before .before .before .before .a-end .result ∷ c .before .before .before .before .a-end2 .result ∷ c .before .before .before .a-end3 .result ∷ c .before .before .b-end .result ∷ c .before .b-end2 .result ∷ c .b-end3 .result ∷ [])
-    ≡ map (flip (a .turn)) (pair-ends (table (a .inc .now) (a .num .now)) (a .halves .now) (a .z) (a .f) (a .g))
-unfolding pair-ends
-six c = rw (c .before .before .before .before .before .a-end .ensures, c .before .before .before .before .a-end2 .ensures, c .before .before .before .a-end3 .ensures, c .before .before .b-end .ensures, c .before .b-end2 .ensures, c .b-end3 .ensures)
+abbrev start : tie.After-b-end3 → tie.Start
+start c = c .before .before .before .before .before .before .before .before .before .before
 
-six-pieces : (c : tie.After-b-end3) → let a = c .before .before .before .before .before .before .before .before .before .before .args in
-    pieces (c .before .before .before .before .before .a-end .result ∷ c .before .before .before .before .a-end2 .result ∷ c .before .before .before .a-end3 .result ∷ c .before .before .b-end .result ∷ c .before .b-end2 .result ∷ c .b-end3 .result ∷ [])
-    ≡ turn (a .turn) (pieces (pair-ends (table (a .inc .now) (a .num .now)) (a .halves .now) (a .z) (a .f) (a .g)))
-six-pieces c = let a = c .before .before .before .before .before .before .before .before .before .before .args in ap pieces (six c) ∙ turn-pieces (a .turn) (pair-ends (table (a .inc .now) (a .num .now)) (a .halves .now) (a .z) (a .f) (a .g))
+-- the six ends, as code has them and as they are defined
+abbrev six : tie.After-b-end3 → List End
+six c =
+    c .before .before .before .before .before .a-end .result ∷ c .before .before .before .before .a-end2 .result ∷ c .before .before .before .a-end3 .result ∷ c .before .before .b-end .result ∷ c .before .b-end2 .result ∷ c .b-end3 .result ∷ []
+
+abbrev defined : tie.Start → List End
+defined s = let a = s .args in pair-ends (table (a .inc .now) (a .num .now)) (a .halves .now) (a .z) (a .f) (a .g)
+
+same-six : (c : tie.After-b-end3) → six c ≡ map (flip (start c .args .turn)) (defined (start c))
+unfolding pair-ends
+same-six c =
+    let d = c .before .before .before in
+    λ j. d .before .before .a-end .ensures j ∷ d .before .a-end2 .ensures j ∷ d .a-end3 .ensures j ∷ c .before .before .b-end .ensures j
+    ∷ c .before .b-end2 .ensures j ∷ c .b-end3 .ensures j ∷ []
+
+six-pieces : (c : tie.After-b-end3) → pieces (six c) ≡ turn (start c .args .turn) (pieces (defined (start c)))
+six-pieces c = ap pieces (same-six c) ∙ turn-pieces (start c .args .turn) (defined (start c))
 
 add-m : tie.Need-add-m
 add-m c = search needs
@@ -99,7 +109,10 @@ array-set-from-all-6 : tie.Need-array-set-from-all-6
 array-set-from-all-6 c = search needs
 
 join-at-requires : tie.Need-join-at-requires
-join-at-requires c κs = let s = c .before .before .before .before .before .before .before .before .before .before .before .before .before in (omega arith, subst (λ (ps : List Half). s .args .at + length (flat ps) ≤ length (s .args .list .now)) (sym (six-pieces (c .before .before .before))) (s .pre .1))
+join-at-requires c κs =
+    let d = c .before .before .before in
+    let a = start d .args in
+    (omega arith, subst (λ (ps : List Half). a .at + length (flat ps) ≤ length (a .list .now)) (sym (six-pieces d)) (start d .pre .1))
 
 same-length : tie.Need-same-length
 same-length c = search needs
@@ -107,15 +120,15 @@ same-length c = search needs
 returns : tie.Need-returns
 returns c =
     let j = c .before .before .join-at in
-    let a = c .before .before .before .before .before .before .before .before .before .before .before .before .before .before .before .before .args in
-    subst (λ (ps : List Half). Behind (flat ps) (a .list .now) (a .at) (j .last .1 .1 .0) (j .result)) (six-pieces (c .before .before .before .before .before .before)) (j .ensures)
+    let d = c .before .before .before .before .before .before in
+    let a = start d .args in
+    subst (λ (ps : List Half). Behind (flat ps) (a .list .now) (a .at) (j .last .1 .1 .0) (j .result)) (six-pieces d) (j .ensures)
 
 returns-2 : tie.Need-returns-2
 returns-2 c =
-    let a = c .before .before .before .before .before .before .before .before .before .before .before .before .args in
     let d = c .before .before in
-    let q = sym (six-pieces d) ∙ quiet-pieces _ (sym (c .before .some-count .ensures) ∙ c .if1 .left) in
-    rw q (behind-none (a .list .now) (a .at))
+    let a = start d .args in
+    rw (sym (six-pieces d) ∙ quiet-pieces _ (sym (c .before .some-count .ensures) ∙ c .if1 .left)) (behind-none (a .list .now) (a .at))
 
 pub pair-pieces-spec : {M : Type 1} → statement M
 pair-pieces-spec =

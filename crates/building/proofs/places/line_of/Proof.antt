@@ -66,8 +66,10 @@ on-facet-requires c κs =
 returns-2 : tie.Need-returns-2
 unfolding line-of
 returns-2 c =
-    let n = c .before .before .before .before .before in
-    rw (le-ltb _ _ (c .before .before .before .if1 .left), c .on-facet .ensures, c .before .of-b2 .ensures, c .before .before .of-b .ensures, n .before .before .before .edge-of .ensures, n .before .before .against .ensures, n .before .number-at .ensures, n .number-at2 .ensures)
+    let o = c .before .before .before in
+    let n = o .before .before in
+    rw (le-ltb _ _ (o .if1 .left), c .on-facet .ensures, c .before .of-b2 .ensures, c .before .before .of-b .ensures)
+    (rw (n .before .before .before .edge-of .ensures, n .before .before .against .ensures, n .before .number-at .ensures, n .number-at2 .ensures))
 
 pub line-of-spec : {M : Type 1} → statement M
 line-of-spec =

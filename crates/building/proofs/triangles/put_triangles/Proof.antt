@@ -38,7 +38,9 @@ boundary-requires c κs =
     ((s .pre .0, h), omega (arith, boundary-short (s .pre .0) (l .x) h, s .pre .1, l .inv .2))
 
 cast-origin : tie.Need-cast-origin Inv-loop μ-loop
-cast-origin c = let s = c .before .before .before .before .before .before .before .before .before .before .before .before in record { fits = omega (arith, c .before .before .before .before .loop-test .taken, s .pre .0 .halves .sized .fa, s .pre .0 .halves .sized .fb) }
+cast-origin c =
+    let s = c .before .before .before .before .before .before .before .before .before .before .before .before in
+    record { fits = omega (arith, c .before .before .before .before .loop-test .taken, s .pre .0 .halves .sized .fa, s .pre .0 .halves .sized .fb) }
 
 put-fan-requires : tie.Need-put-fan-requires Inv-loop μ-loop
 put-fan-requires c κs =
@@ -87,7 +89,10 @@ same-length-3 c = laid-long (c .before .loop .inv .3) .1
 
 returns : tie.Need-returns Inv-loop μ-loop
 unfolding triangles
-returns c = let l = c .before .loop in let s = c .before .before .before .before .before .before .before .before in (rw (← le-antisymm (l .inv .0) (c .loop-test .left)) (l .inv .3), omega (arith, l .inv .0, l .inv .1, s .pre .0 .halves .sized .fa, s .pre .0 .halves .sized .fb))
+returns c =
+    let l = c .before .loop in
+    let s = c .before .before .before .before .before .before .before .before in
+    (rw (← le-antisymm (l .inv .0) (c .loop-test .left)) (l .inv .3), omega (arith, l .inv .0, l .inv .1, s .pre .0 .halves .sized .fa, s .pre .0 .halves .sized .fb))
 
 pub put-triangles-spec : {M : Type 1} → statement M
 put-triangles-spec =

@@ -49,10 +49,13 @@ same-length-2 c = search needs
 
 returns-3 : tie.Need-returns-3
 returns-3 c =
-    let d = c .before .before .before .before .before .before .before .before .before .before .before .before .before .before .before .before in
+    let s3 = c .before .before .before .before .before .before in
+    let s2 = s3 .before .before .before .before in
+    let s1 = s2 .before .before .before .before in
+    let d = s1 .before .before in
     let a = d .before .before .before .before .args in
     rw (fan-apart (a .origin) (a .a) (a .p) (a .q) (d .before .if1 .left) (d .if2 .left))
-    (laid-one (a .origin) (a .a) (a .p) (a .q) (a .corners .now) (a .origins .now) (a .k) (c .before .before .before .before .before .before .before .before .before .before .before .before .before .before .store .ensures) (c .before .before .before .before .before .before .before .before .before .before .store2 .ensures) (c .before .before .before .before .before .before .store3 .ensures) (c .before .before .store4 .ensures), omega arith)
+    (laid-one (a .origin) (a .a) (a .p) (a .q) (a .corners .now) (a .origins .now) (a .k) (s1 .store .ensures) (s2 .store2 .ensures) (s3 .store3 .ensures) (c .before .before .store4 .ensures), omega arith)
 
 pub put-triangle-spec : {M : Type 1} → statement M
 put-triangle-spec =

@@ -57,7 +57,12 @@ loop-again c =
     let h : l .i < length (l .num) = omega (arith, s .pre .0, l .inv .1, c .before .before .before .loop-test .taken) in
     let z = getD (s .args .inc .now) (l .i) (pos 0) in
     let e : toZ w16 (ofZ w16 z) ≡ z = search needs in
-    (omega arith, length-set (l .num) (l .i) (l .k) ∙ l .inv .1, ⊎-elim (λ w. rw (w .1) (numbered-yes (l .inv .2) h (c .before .before .before .loop-test .taken) (ap nonzero (sym e) ∙ sym (c .before .kept .ensures) ∙ w .0 .taken))) (λ w. rw (w .1) (numbered-no (l .inv .2) h (c .before .before .before .loop-test .taken) (ap nonzero (sym e) ∙ sym (c .before .kept .ensures) ∙ w .0 .left))) (c .if1 .came))
+    let m = c .before .before .before .loop-test .taken in
+    let kept = ap nonzero (sym e) ∙ sym (c .before .kept .ensures) in (
+      omega arith,
+      length-set (l .num) (l .i) (l .k) ∙ l .inv .1,
+      ⊎-elim (λ w. rw (w .1) (numbered-yes (l .inv .2) h m (kept ∙ w .0 .taken))) (λ w. rw (w .1) (numbered-no (l .inv .2) h m (kept ∙ w .0 .left))) (c .if1 .came),
+    )
 
 same-length : tie.Need-same-length Inv-loop μ-loop
 same-length c = c .before .loop .inv .1
