@@ -1,2 +1,3 @@
 -- What the contracts of the case language cite.
 pub mod Reading
+pub mod Writing

@@ -77,10 +77,13 @@ pub fn float(pattern: u64) -> f64 {
     f64::from_bits(pattern)
 }
 
-// The bytes that a word of two hex digits each stands for, put at the start of bytes. Answers whether all letters are hex digits.
+// The n bytes that a word of two hex digits each stands for, put at the start of bytes. Answers whether the word is one of n bytes.
 pub fn pairs(word: &[u8], bytes: &mut [u8], n: usize) -> bool
-    requires { ⌜ (n ≤ length (now bytes)) × (2 * n ≤ length (now word)) ⌝ }
+    requires { ⌜ n ≤ length (now bytes) ⌝ }
 {
+    if word.len() != 2 * n {
+        return false;
+    }
     let mut i = 0;
     while i < n {
         let high = digit(word[2 * i]);

@@ -59,3 +59,128 @@ pub fn number(buffer: &mut [u8], letters: &mut [u8], r: Reader, most: usize) -> 
     }
     understood(q, found.value)
 }
+
+// The bit pattern of an f64: a word of 16 hex digits.
+fn pattern(buffer: &mut [u8], letters: &mut [u8], r: Reader) -> Reader
+    requires { ⌜ Sound r (length (now buffer)) (length (now letters)) ⌝ }
+    ensures { λ q. ⌜ Sound q (length (now (buffer .entry))) (length (now (letters .entry))) ⌝ }
+{
+    if !r.good {
+        return failed(r);
+    }
+    let q = input::looked(buffer, letters, r);
+    let n = q.length;
+    if n != 16 {
+        return failed(q);
+    }
+    let found = digits::number_of(&letters[..n], 16);
+    if !found.known {
+        return failed(q);
+    }
+    understood(q, found.value)
+}
+
+// A fixed word and a number of at most most.
+pub fn named(buffer: &mut [u8], letters: &mut [u8], r: Reader, name: &[u8], most: usize) -> Reader
+    requires { ⌜ Sound r (length (now buffer)) (length (now letters)) ⌝ }
+    ensures { λ q. ⌜ Sound q (length (now (buffer .entry))) (length (now (letters .entry))) × (q .number ≤ most) ⌝ }
+{
+    let q = word(buffer, letters, r, name);
+    number(buffer, letters, q, most)
+}
+
+fn coordinate(
+    buffer: &mut [u8],
+    letters: &mut [u8],
+    r: Reader,
+    list: &mut [f64],
+    i: usize,
+) -> Reader
+    requires { ⌜ Sound r (length (now buffer)) (length (now letters)) ⌝ }
+    ensures { λ q. ⌜ Sound q (length (now (buffer .entry))) (length (now (letters .entry))) ⌝ }
+{
+    let q = pattern(buffer, letters, r);
+    if i < list.len() {
+        list[i] = digits::float(q.number as u64);
+    }
+    q
+}
+
+// A list of coordinates with its name and its length, which is the reader's number afterwards. What the list has no room for is read and left out.
+pub fn coordinates(
+    buffer: &mut [u8],
+    letters: &mut [u8],
+    r: Reader,
+    name: &[u8],
+    list: &mut [f64],
+) -> Reader
+    requires { ⌜ Sound r (length (now buffer)) (length (now letters)) ⌝ }
+    ensures { λ q. ⌜ Sound q (length (now (buffer .entry))) (length (now (letters .entry))) ⌝ }
+{
+    let mut q = named(buffer, letters, r, name, usize::MAX);
+    let n = q.number;
+    let mut i = 0;
+    while i < n {
+        q = coordinate(buffer, letters, q, list, i);
+        if !q.good {
+            return q;
+        }
+        i += 1;
+    }
+    q.number = n;
+    q
+}
+
+fn corner(buffer: &mut [u8], letters: &mut [u8], r: Reader, list: &mut [u32], i: usize) -> Reader
+    requires { ⌜ Sound r (length (now buffer)) (length (now letters)) ⌝ }
+    ensures { λ q. ⌜ Sound q (length (now (buffer .entry))) (length (now (letters .entry))) ⌝ }
+{
+    let q = number(buffer, letters, r, 4294967295);
+    if i < list.len() {
+        list[i] = q.number as u32;
+    }
+    q
+}
+
+// A list of corners, as coordinates.
+pub fn corners(
+    buffer: &mut [u8],
+    letters: &mut [u8],
+    r: Reader,
+    name: &[u8],
+    list: &mut [u32],
+) -> Reader
+    requires { ⌜ Sound r (length (now buffer)) (length (now letters)) ⌝ }
+    ensures { λ q. ⌜ Sound q (length (now (buffer .entry))) (length (now (letters .entry))) ⌝ }
+{
+    let mut q = named(buffer, letters, r, name, usize::MAX);
+    let n = q.number;
+    let mut i = 0;
+    while i < n {
+        q = corner(buffer, letters, q, list, i);
+        if !q.good {
+            return q;
+        }
+        i += 1;
+    }
+    q.number = n;
+    q
+}
+
+// Bytes with their number, which is the reader's number afterwards. More than the list has room for are not understood.
+pub fn bytes(buffer: &mut [u8], letters: &mut [u8], r: Reader, list: &mut [u8]) -> Reader
+    requires { ⌜ Sound r (length (now buffer)) (length (now letters)) ⌝ }
+    ensures { λ q. ⌜ Sound q (length (now (buffer .entry))) (length (now (letters .entry))) × (q .number ≤ length (now (list .entry))) ⌝ }
+{
+    let counted = named(buffer, letters, r, b"bytes", list.len());
+    let n = counted.number;
+    if n == 0 {
+        return counted;
+    }
+    let q = input::looked(buffer, letters, counted);
+    let size = q.length;
+    if digits::pairs(&letters[..size], list, n) {
+        return understood(q, n);
+    }
+    failed(q)
+}

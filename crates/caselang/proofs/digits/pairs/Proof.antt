@@ -12,6 +12,12 @@ Inv-loop word bytes₀ n i₀ bytes i = (i ≤ n) × (length bytes ≡ length by
 abbrev μ-loop : tie.MeasureT-loop
 μ-loop word bytes₀ n i₀ bytes i = n - i
 
+mul-if1 : tie.Need-mul-if1 Inv-loop μ-loop
+mul-if1 c = search needs
+
+returns : tie.Need-returns Inv-loop μ-loop
+returns c = search needs
+
 loop-holds : tie.Need-loop-holds Inv-loop μ-loop
 loop-holds c = search needs
 
@@ -39,14 +45,14 @@ digit-requires-2 c κs = search needs
 same-length : tie.Need-same-length Inv-loop μ-loop
 same-length c = search needs
 
-returns : tie.Need-returns Inv-loop μ-loop
-returns c = search needs
+returns-2 : tie.Need-returns-2 Inv-loop μ-loop
+returns-2 c = search needs
 
 same-length-2 : tie.Need-same-length-2 Inv-loop μ-loop
 same-length-2 c = search needs
 
-returns-2 : tie.Need-returns-2 Inv-loop μ-loop
-returns-2 c = search needs
+returns-3 : tie.Need-returns-3 Inv-loop μ-loop
+returns-3 c = search needs
 
 mul-bytes : tie.Need-mul-bytes Inv-loop μ-loop
 mul-bytes c = search needs
@@ -72,8 +78,8 @@ loop-again c = search needs
 same-length-3 : tie.Need-same-length-3 Inv-loop μ-loop
 same-length-3 c = search needs
 
-returns-3 : tie.Need-returns-3 Inv-loop μ-loop
-returns-3 c = search needs
+returns-4 : tie.Need-returns-4 Inv-loop μ-loop
+returns-4 c = search needs
 
 pub pairs-spec : {M : Type 1} → statement M
 pairs-spec =
@@ -81,6 +87,8 @@ pairs-spec =
     (tie.spec
     Inv-loop
     μ-loop
+    mul-if1
+    returns
     loop-holds
     mul-digit
     shared-slice-read-digit
@@ -90,9 +98,9 @@ pairs-spec =
     shared-slice-read-digit-2
     digit-requires-2
     same-length
-    returns
-    same-length-2
     returns-2
+    same-length-2
+    returns-3
     mul-bytes
     add-bytes
     cast-bytes
@@ -101,4 +109,4 @@ pairs-spec =
     loop-less
     loop-again
     same-length-3
-    returns-3)
+    returns-4)
