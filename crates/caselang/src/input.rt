@@ -1,10 +1,13 @@
 // The words of standard input, one at a time. Bytes come through a buffer that the caller lends; the letters of the word at hand stand in a second list.
 use libc::STDIN_FILENO;
 ghost use mathlib.Core.Path.{_≡_};
-ghost use Prim.Native.Nat.{_+_, _<_, _≤_};
-ghost use lib.ListN.{length};
-ghost use lib.ListN as Li;
+ghost use Prim.Native.Nat.{_+_, _≤_};
 ghost use Rattle.caselang.specs.Reading.{Sound};
+
+pub type Buffer = [u8; 65536];
+
+// The longest word of a request is 65,536 bytes in hex.
+pub type Letters = [u8; 131072];
 
 // Where reading stands.
 pub struct Reader {
@@ -25,7 +28,7 @@ pub struct Reader {
 
 // Before the first byte.
 pub fn start() -> Reader
-    ensures { λ r. ⌜ (r .end ≡ 0) × (r .length ≡ 0) ⌝ }
+    ensures { λ r. ⌜ Sound r ⌝ }
 {
     Reader {
         at: 0,
@@ -47,10 +50,9 @@ fn least(a: usize, b: usize) -> usize
 }
 
 // Some byte is at hand afterwards, unless the input has ended.
-fn filled(buffer: &mut [u8], mut r: Reader) -> Reader
-    requires { ⌜ (r .end ≤ length (now buffer)) × (r .end ≤ r .at + r .left) ⌝ }
-    ensures { λ q. ⌜ (q .end ≤ length (now (buffer .entry))) × (q .end ≤ q .at + q .left) ⌝ }
-    ensures { λ q. ⌜ (q .left ≡ r .left) × (q .length ≡ r .length) ⌝ }
+fn filled(buffer: &mut Buffer, mut r: Reader) -> Reader
+    requires { ⌜ Sound r ⌝ }
+    ensures { λ q. ⌜ Sound q × (q .left ≡ r .left) × (q .length ≡ r .length) ⌝ }
 {
     if r.at < r.end {
         return r;
@@ -74,9 +76,9 @@ fn fresh_after(fresh: bool, byte: u8) -> bool {
 }
 
 // Past white space: at the next word, or at the end of the input.
-fn at_word(buffer: &mut [u8], r: Reader) -> Reader
-    requires { ⌜ (r .end ≤ length (now buffer)) × (r .end ≤ r .at + r .left) ⌝ }
-    ensures { λ q. ⌜ (q .end ≤ length (now (buffer .entry))) × (q .end ≤ q .at + q .left) × (q .left ≤ r .left) ⌝ }
+fn at_word(buffer: &mut Buffer, r: Reader) -> Reader
+    requires { ⌜ Sound r ⌝ }
+    ensures { λ q. ⌜ Sound q × (q .left ≤ r .left) ⌝ }
 {
     let mut q = filled(buffer, r);
     while q.at < q.end {
@@ -94,9 +96,8 @@ fn at_word(buffer: &mut [u8], r: Reader) -> Reader
 }
 
 // One more letter of the word at hand. A word longer than the letters is cut, and begins with a question mark then, so that nothing takes it for another word.
-fn with_letter(letters: &mut [u8], length: usize, letter: u8) -> usize
-    requires { ⌜ (length ≤ Li.length (now letters)) × (0 < Li.length (now letters)) ⌝ }
-    ensures { λ r. ⌜ (r ≤ Li.length (now (letters .entry))) × (r ≤ length + 1) ⌝ }
+fn with_letter(letters: &mut Letters, length: usize, letter: u8) -> usize
+    ensures { λ r. ⌜ r ≤ length + 1 ⌝ }
 {
     if length < letters.len() {
         letters[length] = letter;
@@ -107,9 +108,9 @@ fn with_letter(letters: &mut [u8], length: usize, letter: u8) -> usize
 }
 
 // The letters up to the next white space, or up to the end of the input.
-fn spelled(buffer: &mut [u8], letters: &mut [u8], r: Reader) -> Reader
-    requires { ⌜ Sound r (Li.length (now buffer)) (Li.length (now letters)) × (r .length ≡ 0) ⌝ }
-    ensures { λ q. ⌜ Sound q (Li.length (now (buffer .entry))) (Li.length (now (letters .entry))) × (q .length + q .left ≤ r .left) ⌝ }
+fn spelled(buffer: &mut Buffer, letters: &mut Letters, r: Reader) -> Reader
+    requires { ⌜ Sound r × (r .length ≡ 0) ⌝ }
+    ensures { λ q. ⌜ Sound q × (q .length + q .left ≤ r .left) ⌝ }
 {
     let mut q = filled(buffer, r);
     while q.at < q.end {
@@ -127,9 +128,9 @@ fn spelled(buffer: &mut [u8], letters: &mut [u8], r: Reader) -> Reader
 }
 
 // The next word is at hand afterwards, or the empty one at the end of the input.
-pub fn next_word(buffer: &mut [u8], letters: &mut [u8], r: Reader) -> Reader
-    requires { ⌜ Sound r (Li.length (now buffer)) (Li.length (now letters)) ⌝ }
-    ensures { λ q. ⌜ Sound q (Li.length (now (buffer .entry))) (Li.length (now (letters .entry))) × (q .length + q .left ≤ r .left) ⌝ }
+pub fn next_word(buffer: &mut Buffer, letters: &mut Letters, r: Reader) -> Reader
+    requires { ⌜ Sound r ⌝ }
+    ensures { λ q. ⌜ Sound q × (q .length + q .left ≤ r .left) ⌝ }
 {
     let mut q = at_word(buffer, r);
     q.first = q.fresh;
@@ -140,9 +141,9 @@ pub fn next_word(buffer: &mut [u8], letters: &mut [u8], r: Reader) -> Reader
 }
 
 // The word at hand, which is read only when it is asked for: no answer waits for the request behind it.
-pub fn looked(buffer: &mut [u8], letters: &mut [u8], r: Reader) -> Reader
-    requires { ⌜ Sound r (Li.length (now buffer)) (Li.length (now letters)) ⌝ }
-    ensures { λ q. ⌜ Sound q (Li.length (now (buffer .entry))) (Li.length (now (letters .entry))) ⌝ }
+pub fn looked(buffer: &mut Buffer, letters: &mut Letters, r: Reader) -> Reader
+    requires { ⌜ Sound r ⌝ }
+    ensures { λ q. ⌜ Sound q ⌝ }
 {
     if r.held {
         return r;

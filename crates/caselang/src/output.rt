@@ -1,9 +1,12 @@
 // The lines of an answer. They wait in a list that the caller lends, up to at, and go to standard output when it is full or the answer ends. Each function answers the new at. Lines that cannot be written are lost.
+use crate::fronts;
 use libc::STDOUT_FILENO;
 ghost use mathlib.Core.Path.{_≡_};
 ghost use Prim.Native.Nat.{_+_, _<_, _≤_};
 ghost use lib.ListN.{length};
-ghost use Rattle.caselang.specs.Writing.{Room};
+
+// The lines that wait to be written.
+pub type Lines = [u8; 65536];
 
 fn least(a: usize, b: usize) -> usize
     ensures { λ r. ⌜ (r ≤ a) × (r ≤ b) ⌝ }
@@ -15,9 +18,9 @@ fn wide(x: u32) -> u64 {
     x as u64
 }
 
-fn byte(out: &mut [u8], at: usize, next: u8) -> usize
-    requires { ⌜ Room at (length (now out)) ⌝ }
-    ensures { λ r. ⌜ Room r (length (now (out .entry))) ⌝ }
+fn byte(out: &mut Lines, at: usize, next: u8) -> usize
+    requires { ⌜ at ≤ 65536 ⌝ }
+    ensures { λ r. ⌜ r ≤ 65536 ⌝ }
 {
     if at < out.len() {
         out[at] = next;
@@ -28,9 +31,9 @@ fn byte(out: &mut [u8], at: usize, next: u8) -> usize
     1
 }
 
-pub fn text(out: &mut [u8], at: usize, all: &[u8]) -> usize
-    requires { ⌜ Room at (length (now out)) ⌝ }
-    ensures { λ r. ⌜ Room r (length (now (out .entry))) ⌝ }
+pub fn text(out: &mut Lines, at: usize, all: &[u8]) -> usize
+    requires { ⌜ at ≤ 65536 ⌝ }
+    ensures { λ r. ⌜ r ≤ 65536 ⌝ }
 {
     let mut end = at;
     let mut i = 0;
@@ -41,9 +44,9 @@ pub fn text(out: &mut [u8], at: usize, all: &[u8]) -> usize
     end
 }
 
-pub fn number(out: &mut [u8], at: usize, n: u64) -> usize
-    requires { ⌜ Room at (length (now out)) ⌝ }
-    ensures { λ r. ⌜ Room r (length (now (out .entry))) ⌝ }
+pub fn number(out: &mut Lines, at: usize, n: u64) -> usize
+    requires { ⌜ at ≤ 65536 ⌝ }
+    ensures { λ r. ⌜ r ≤ 65536 ⌝ }
 {
     let mut all = [0u8; 20];
     let k = io::decimal(n, &mut all);
@@ -51,9 +54,9 @@ pub fn number(out: &mut [u8], at: usize, n: u64) -> usize
 }
 
 // A number behind a space.
-pub fn spaced(out: &mut [u8], at: usize, n: u64) -> usize
-    requires { ⌜ Room at (length (now out)) ⌝ }
-    ensures { λ r. ⌜ Room r (length (now (out .entry))) ⌝ }
+pub fn spaced(out: &mut Lines, at: usize, n: u64) -> usize
+    requires { ⌜ at ≤ 65536 ⌝ }
+    ensures { λ r. ⌜ r ≤ 65536 ⌝ }
 {
     let end = byte(out, at, b' ');
     number(out, end, n)
@@ -69,9 +72,9 @@ fn magnitude(n: i32) -> u64 {
 }
 
 // A number that may be below 0, behind a space.
-pub fn signed(out: &mut [u8], at: usize, n: i32) -> usize
-    requires { ⌜ Room at (length (now out)) ⌝ }
-    ensures { λ r. ⌜ Room r (length (now (out .entry))) ⌝ }
+pub fn signed(out: &mut Lines, at: usize, n: i32) -> usize
+    requires { ⌜ at ≤ 65536 ⌝ }
+    ensures { λ r. ⌜ r ≤ 65536 ⌝ }
 {
     if n >= 0 {
         return spaced(out, at, magnitude(n));
@@ -81,9 +84,9 @@ pub fn signed(out: &mut [u8], at: usize, n: i32) -> usize
 }
 
 // The bit pattern of a coordinate behind a space. No answer has a NaN, which has no pattern.
-fn coordinate(out: &mut [u8], at: usize, x: f64) -> usize
-    requires { ⌜ Room at (length (now out)) ⌝ }
-    ensures { λ r. ⌜ Room r (length (now (out .entry))) ⌝ }
+fn coordinate(out: &mut Lines, at: usize, x: f64) -> usize
+    requires { ⌜ at ≤ 65536 ⌝ }
+    ensures { λ r. ⌜ r ≤ 65536 ⌝ }
 {
     if x != x {
         return text(out, at, b" nan");
@@ -95,9 +98,9 @@ fn coordinate(out: &mut [u8], at: usize, x: f64) -> usize
 }
 
 // The line of one vertex: three coordinates of a list, from its place from on.
-fn vertex(out: &mut [u8], at: usize, list: &[f64], from: usize) -> usize
-    requires { ⌜ Room at (length (now out)) × (from + 3 ≤ length (now list)) ⌝ }
-    ensures { λ r. ⌜ Room r (length (now (out .entry))) ⌝ }
+fn vertex(out: &mut Lines, at: usize, list: &[f64], from: usize) -> usize
+    requires { ⌜ (at ≤ 65536) × (from + 3 ≤ length (now list)) ⌝ }
+    ensures { λ r. ⌜ r ≤ 65536 ⌝ }
 {
     let mark = byte(out, at, b'v');
     let x = coordinate(out, mark, list[from]);
@@ -107,9 +110,9 @@ fn vertex(out: &mut [u8], at: usize, list: &[f64], from: usize) -> usize
 }
 
 // The lines of the first n vertices, or of all that the list has.
-pub fn vertices(out: &mut [u8], at: usize, list: &[f64], n: usize) -> usize
-    requires { ⌜ Room at (length (now out)) ⌝ }
-    ensures { λ r. ⌜ Room r (length (now (out .entry))) ⌝ }
+pub fn vertices(out: &mut Lines, at: usize, list: &[f64], n: usize) -> usize
+    requires { ⌜ at ≤ 65536 ⌝ }
+    ensures { λ r. ⌜ r ≤ 65536 ⌝ }
 {
     let most = least(n, list.len() / 3);
     let mut end = at;
@@ -122,9 +125,9 @@ pub fn vertices(out: &mut [u8], at: usize, list: &[f64], n: usize) -> usize
 }
 
 // A letter and three corners, from the place from of their list on.
-fn corners(out: &mut [u8], at: usize, letter: u8, list: &[u32], from: usize) -> usize
-    requires { ⌜ Room at (length (now out)) × (from + 3 ≤ length (now list)) ⌝ }
-    ensures { λ r. ⌜ Room r (length (now (out .entry))) ⌝ }
+fn corners(out: &mut Lines, at: usize, letter: u8, list: &[u32], from: usize) -> usize
+    requires { ⌜ (at ≤ 65536) × (from + 3 ≤ length (now list)) ⌝ }
+    ensures { λ r. ⌜ r ≤ 65536 ⌝ }
 {
     let mark = byte(out, at, letter);
     let p = spaced(out, mark, wide(list[from]));
@@ -133,9 +136,9 @@ fn corners(out: &mut [u8], at: usize, letter: u8, list: &[u32], from: usize) -> 
 }
 
 // The lines of the first n facets, or of all that the list has.
-pub fn facets(out: &mut [u8], at: usize, list: &[u32], n: usize) -> usize
-    requires { ⌜ Room at (length (now out)) ⌝ }
-    ensures { λ r. ⌜ Room r (length (now (out .entry))) ⌝ }
+pub fn facets(out: &mut Lines, at: usize, list: &[u32], n: usize) -> usize
+    requires { ⌜ at ≤ 65536 ⌝ }
+    ensures { λ r. ⌜ r ≤ 65536 ⌝ }
 {
     let most = least(n, list.len() / 3);
     let mut end = at;
@@ -149,9 +152,9 @@ pub fn facets(out: &mut [u8], at: usize, list: &[u32], n: usize) -> usize
 }
 
 // The lines of the first n triangles with their origins, or of all that the lists have.
-pub fn triangles(out: &mut [u8], at: usize, list: &[u32], origins: &[u32], n: usize) -> usize
-    requires { ⌜ Room at (length (now out)) ⌝ }
-    ensures { λ r. ⌜ Room r (length (now (out .entry))) ⌝ }
+pub fn triangles(out: &mut Lines, at: usize, list: &[u32], origins: &[u32], n: usize) -> usize
+    requires { ⌜ at ≤ 65536 ⌝ }
+    ensures { λ r. ⌜ r ≤ 65536 ⌝ }
 {
     let most = least(least(n, origins.len()), list.len() / 3);
     let mut end = at;
@@ -165,9 +168,9 @@ pub fn triangles(out: &mut [u8], at: usize, list: &[u32], origins: &[u32], n: us
     end
 }
 
-fn pair(out: &mut [u8], at: usize, value: u8) -> usize
-    requires { ⌜ Room at (length (now out)) ⌝ }
-    ensures { λ r. ⌜ Room r (length (now (out .entry))) ⌝ }
+fn pair(out: &mut Lines, at: usize, value: u8) -> usize
+    requires { ⌜ at ≤ 65536 ⌝ }
+    ensures { λ r. ⌜ r ≤ 65536 ⌝ }
 {
     let mut all = [0u8; 16];
     let k = io::hex(value as u64, 2, &mut all);
@@ -175,9 +178,9 @@ fn pair(out: &mut [u8], at: usize, value: u8) -> usize
 }
 
 // Two hex digits for each byte.
-pub fn pairs(out: &mut [u8], at: usize, list: &[u8]) -> usize
-    requires { ⌜ Room at (length (now out)) ⌝ }
-    ensures { λ r. ⌜ Room r (length (now (out .entry))) ⌝ }
+pub fn pairs(out: &mut Lines, at: usize, list: &[u8]) -> usize
+    requires { ⌜ at ≤ 65536 ⌝ }
+    ensures { λ r. ⌜ r ≤ 65536 ⌝ }
 {
     let mut end = at;
     let mut i = 0;
@@ -189,9 +192,23 @@ pub fn pairs(out: &mut [u8], at: usize, list: &[u8]) -> usize
 }
 
 // The full stop behind an answer, with which all that waits is written.
-pub fn stop(out: &mut [u8], at: usize)
-    requires { ⌜ Room at (length (now out)) ⌝ }
+pub fn stop(out: &mut Lines, at: usize)
+    requires { ⌜ at ≤ 65536 ⌝ }
 {
     let end = text(out, at, b".\n");
-    io::write_all(STDOUT_FILENO, &out[..end]);
+    io::write_all(STDOUT_FILENO, fronts::bytes(out, end));
+}
+
+// All numbers of a list, each behind a space.
+pub fn listed(out: &mut Lines, at: usize, list: &[u32]) -> usize
+    requires { ⌜ at ≤ 65536 ⌝ }
+    ensures { λ r. ⌜ r ≤ 65536 ⌝ }
+{
+    let mut end = at;
+    let mut i = 0;
+    while i < list.len() {
+        end = spaced(out, end, wide(list[i]));
+        i += 1;
+    }
+    end
 }

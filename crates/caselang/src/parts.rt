@@ -1,6 +1,9 @@
 // The parts that requests are made of: fixed words, numbers, lists and bytes. A part that cannot be read leaves its word at hand and the reader not good, and then the parts behind it read nothing.
 use crate::digits;
+use crate::fronts;
 use crate::input;
+use crate::input::Buffer;
+use crate::input::Letters;
 use crate::input::Reader;
 ghost use mathlib.Core.Path.{_≡_};
 ghost use Prim.Native.Nat.{_+_, _<_, _≤_};
@@ -25,32 +28,48 @@ fn understood(mut r: Reader, number: usize) -> Reader
 }
 
 // A fixed word.
-pub fn word(buffer: &mut [u8], letters: &mut [u8], r: Reader, name: &[u8]) -> Reader
-    requires { ⌜ Sound r (length (now buffer)) (length (now letters)) ⌝ }
-    ensures { λ q. ⌜ Sound q (length (now (buffer .entry))) (length (now (letters .entry))) ⌝ }
+pub fn word(buffer: &mut Buffer, letters: &mut Letters, r: Reader, name: &[u8]) -> Reader
+    requires { ⌜ Sound r ⌝ }
+    ensures { λ q. ⌜ Sound q ⌝ }
 {
     if !r.good {
         return r;
     }
     let q = input::looked(buffer, letters, r);
     let n = q.length;
-    if check::same(&letters[..n], name) {
+    if check::same(fronts::bytes(letters, n), name) {
         return understood(q, 0);
     }
     failed(q)
 }
 
+// One of two fixed words: the number is 0 for the first and 1 for the second.
+pub fn either(buffer: &mut Buffer, letters: &mut Letters, r: Reader, first: &[u8], second: &[u8]) -> Reader
+    requires { ⌜ Sound r ⌝ }
+    ensures { λ q. ⌜ Sound q ⌝ }
+{
+    let q = input::looked(buffer, letters, r);
+    let n = q.length;
+    if check::same(fronts::bytes(letters, n), first) {
+        return understood(q, 0);
+    }
+    if check::same(fronts::bytes(letters, n), second) {
+        return understood(q, 1);
+    }
+    failed(q)
+}
+
 // A decimal number of at most most.
-pub fn number(buffer: &mut [u8], letters: &mut [u8], r: Reader, most: usize) -> Reader
-    requires { ⌜ Sound r (length (now buffer)) (length (now letters)) ⌝ }
-    ensures { λ q. ⌜ Sound q (length (now (buffer .entry))) (length (now (letters .entry))) × (q .number ≤ most) ⌝ }
+pub fn number(buffer: &mut Buffer, letters: &mut Letters, r: Reader, most: usize) -> Reader
+    requires { ⌜ Sound r ⌝ }
+    ensures { λ q. ⌜ Sound q × (q .number ≤ most) ⌝ }
 {
     if !r.good {
         return failed(r);
     }
     let q = input::looked(buffer, letters, r);
     let n = q.length;
-    let found = digits::number_of(&letters[..n], 10);
+    let found = digits::number_of(fronts::bytes(letters, n), 10);
     if !found.known {
         return failed(q);
     }
@@ -61,9 +80,9 @@ pub fn number(buffer: &mut [u8], letters: &mut [u8], r: Reader, most: usize) -> 
 }
 
 // The bit pattern of an f64: a word of 16 hex digits.
-fn pattern(buffer: &mut [u8], letters: &mut [u8], r: Reader) -> Reader
-    requires { ⌜ Sound r (length (now buffer)) (length (now letters)) ⌝ }
-    ensures { λ q. ⌜ Sound q (length (now (buffer .entry))) (length (now (letters .entry))) ⌝ }
+pub fn pattern(buffer: &mut Buffer, letters: &mut Letters, r: Reader) -> Reader
+    requires { ⌜ Sound r ⌝ }
+    ensures { λ q. ⌜ Sound q ⌝ }
 {
     if !r.good {
         return failed(r);
@@ -73,7 +92,7 @@ fn pattern(buffer: &mut [u8], letters: &mut [u8], r: Reader) -> Reader
     if n != 16 {
         return failed(q);
     }
-    let found = digits::number_of(&letters[..n], 16);
+    let found = digits::number_of(fronts::bytes(letters, n), 16);
     if !found.known {
         return failed(q);
     }
@@ -81,23 +100,23 @@ fn pattern(buffer: &mut [u8], letters: &mut [u8], r: Reader) -> Reader
 }
 
 // A fixed word and a number of at most most.
-pub fn named(buffer: &mut [u8], letters: &mut [u8], r: Reader, name: &[u8], most: usize) -> Reader
-    requires { ⌜ Sound r (length (now buffer)) (length (now letters)) ⌝ }
-    ensures { λ q. ⌜ Sound q (length (now (buffer .entry))) (length (now (letters .entry))) × (q .number ≤ most) ⌝ }
+pub fn named(buffer: &mut Buffer, letters: &mut Letters, r: Reader, name: &[u8], most: usize) -> Reader
+    requires { ⌜ Sound r ⌝ }
+    ensures { λ q. ⌜ Sound q × (q .number ≤ most) ⌝ }
 {
     let q = word(buffer, letters, r, name);
     number(buffer, letters, q, most)
 }
 
 fn coordinate(
-    buffer: &mut [u8],
-    letters: &mut [u8],
+    buffer: &mut Buffer,
+    letters: &mut Letters,
     r: Reader,
     list: &mut [f64],
     i: usize,
 ) -> Reader
-    requires { ⌜ Sound r (length (now buffer)) (length (now letters)) ⌝ }
-    ensures { λ q. ⌜ Sound q (length (now (buffer .entry))) (length (now (letters .entry))) ⌝ }
+    requires { ⌜ Sound r ⌝ }
+    ensures { λ q. ⌜ Sound q ⌝ }
 {
     let q = pattern(buffer, letters, r);
     if i < list.len() {
@@ -108,14 +127,14 @@ fn coordinate(
 
 // A list of coordinates with its name and its length, which is the reader's number afterwards. What the list has no room for is read and left out.
 pub fn coordinates(
-    buffer: &mut [u8],
-    letters: &mut [u8],
+    buffer: &mut Buffer,
+    letters: &mut Letters,
     r: Reader,
     name: &[u8],
     list: &mut [f64],
 ) -> Reader
-    requires { ⌜ Sound r (length (now buffer)) (length (now letters)) ⌝ }
-    ensures { λ q. ⌜ Sound q (length (now (buffer .entry))) (length (now (letters .entry))) ⌝ }
+    requires { ⌜ Sound r ⌝ }
+    ensures { λ q. ⌜ Sound q ⌝ }
 {
     let mut q = named(buffer, letters, r, name, usize::MAX);
     let n = q.number;
@@ -131,9 +150,9 @@ pub fn coordinates(
     q
 }
 
-fn corner(buffer: &mut [u8], letters: &mut [u8], r: Reader, list: &mut [u32], i: usize) -> Reader
-    requires { ⌜ Sound r (length (now buffer)) (length (now letters)) ⌝ }
-    ensures { λ q. ⌜ Sound q (length (now (buffer .entry))) (length (now (letters .entry))) ⌝ }
+fn corner(buffer: &mut Buffer, letters: &mut Letters, r: Reader, list: &mut [u32], i: usize) -> Reader
+    requires { ⌜ Sound r ⌝ }
+    ensures { λ q. ⌜ Sound q ⌝ }
 {
     let q = number(buffer, letters, r, 4294967295);
     if i < list.len() {
@@ -144,14 +163,14 @@ fn corner(buffer: &mut [u8], letters: &mut [u8], r: Reader, list: &mut [u32], i:
 
 // A list of corners, as coordinates.
 pub fn corners(
-    buffer: &mut [u8],
-    letters: &mut [u8],
+    buffer: &mut Buffer,
+    letters: &mut Letters,
     r: Reader,
     name: &[u8],
     list: &mut [u32],
 ) -> Reader
-    requires { ⌜ Sound r (length (now buffer)) (length (now letters)) ⌝ }
-    ensures { λ q. ⌜ Sound q (length (now (buffer .entry))) (length (now (letters .entry))) ⌝ }
+    requires { ⌜ Sound r ⌝ }
+    ensures { λ q. ⌜ Sound q ⌝ }
 {
     let mut q = named(buffer, letters, r, name, usize::MAX);
     let n = q.number;
@@ -168,9 +187,9 @@ pub fn corners(
 }
 
 // Bytes with their number, which is the reader's number afterwards. More than the list has room for are not understood.
-pub fn bytes(buffer: &mut [u8], letters: &mut [u8], r: Reader, list: &mut [u8]) -> Reader
-    requires { ⌜ Sound r (length (now buffer)) (length (now letters)) ⌝ }
-    ensures { λ q. ⌜ Sound q (length (now (buffer .entry))) (length (now (letters .entry))) × (q .number ≤ length (now (list .entry))) ⌝ }
+pub fn bytes(buffer: &mut Buffer, letters: &mut Letters, r: Reader, list: &mut [u8]) -> Reader
+    requires { ⌜ Sound r ⌝ }
+    ensures { λ q. ⌜ Sound q × (q .number ≤ length (now (list .entry))) ⌝ }
 {
     let counted = named(buffer, letters, r, b"bytes", list.len());
     let n = counted.number;
@@ -179,7 +198,7 @@ pub fn bytes(buffer: &mut [u8], letters: &mut [u8], r: Reader, list: &mut [u8]) 
     }
     let q = input::looked(buffer, letters, counted);
     let size = q.length;
-    if digits::pairs(&letters[..size], list, n) {
+    if digits::pairs(fronts::bytes(letters, size), list, n) {
         return understood(q, n);
     }
     failed(q)

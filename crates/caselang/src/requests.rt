@@ -1,5 +1,8 @@
 // Where a request begins, and what is held of its lists.
+use crate::fronts;
 use crate::input;
+use crate::input::Buffer;
+use crate::input::Letters;
 use crate::input::Reader;
 ghost use mathlib.Core.Path.{_≡_};
 ghost use Prim.Native.Nat.{_+_, _<_, _≤_};
@@ -46,21 +49,18 @@ fn begins(word: &[u8]) -> bool {
 }
 
 // Whether the word at hand is the first on its line and begins a request.
-fn opens(letters: &[u8], r: Reader) -> bool
-    requires { ⌜ r .length ≤ length (now letters) ⌝ }
-{
-    let n = r.length;
+fn opens(letters: &Letters, r: Reader) -> bool {
     if r.first {
-        begins(&letters[..n])
+        begins(fronts::bytes(letters, r.length))
     } else {
         false
     }
 }
 
 // Past a request that cannot be read, from its word that was not understood on: at the next line that begins with a request word, or at the end of the input.
-pub fn resumed(buffer: &mut [u8], letters: &mut [u8], r: Reader) -> Reader
-    requires { ⌜ Sound r (length (now buffer)) (length (now letters)) ⌝ }
-    ensures { λ q. ⌜ Sound q (length (now (buffer .entry))) (length (now (letters .entry))) ⌝ }
+pub fn resumed(buffer: &mut Buffer, letters: &mut Letters, r: Reader) -> Reader
+    requires { ⌜ Sound r ⌝ }
+    ensures { λ q. ⌜ Sound q ⌝ }
 {
     let mut q = input::looked(buffer, letters, r);
     while 0 < q.length {
@@ -77,4 +77,11 @@ pub fn held(n: usize) -> usize
     ensures { λ r. ⌜ r ≤ 8192 ⌝ }
 {
     if n <= 8192 { n } else { 8190 + n % 3 }
+}
+
+// The part of a room that is lent.
+pub fn lent(room: usize, most: usize) -> usize
+    ensures { λ r. ⌜ r ≤ most ⌝ }
+{
+    if room < most { room } else { most }
 }

@@ -1,13 +1,12 @@
--- `at_word` meets its contract: the buffer keeps its length, and fewer bytes are left after each turn.
-use mathlib.Core.Path.{_≡_}
-use lib.ListN.{length}
-use Prim.Native.Nat.{_+_, _≤_}
+-- `at_word` meets its contract: fewer bytes are left after each turn.
+use Rattle.caselang.specs.Reading.{Sound}
+use Prim.Native.Nat.{_≤_}
 use borrow.Author.Needs.{needs}
 use Rattle.caselang.proofs.input.at_word.Statement.{statement}
 use Rattle.caselang.proofs.input.at_word.Tie as tie
 
 abbrev Inv-loop : tie.InvT-loop
-Inv-loop buffer₀ q₀ buffer q = (q .end ≤ length buffer₀) × (q .end ≤ q .at + q .left) × (q .left ≤ q₀ .left) × (length buffer ≡ length buffer₀)
+Inv-loop buffer₀ q₀ buffer q = Sound q × (q .left ≤ q₀ .left)
 
 abbrev μ-loop : tie.MeasureT-loop
 μ-loop buffer₀ q₀ buffer q = q .left
@@ -18,14 +17,11 @@ filled-requires c κs = search needs
 loop-holds : tie.Need-loop-holds Inv-loop μ-loop
 loop-holds c = search needs
 
-slice-read-byte : tie.Need-slice-read-byte Inv-loop μ-loop
-slice-read-byte c = search needs
+element-copy-out-byte : tie.Need-element-copy-out-byte Inv-loop μ-loop
+element-copy-out-byte c = search needs
 
 blank-requires : tie.Need-blank-requires Inv-loop μ-loop
 blank-requires c κs = search needs
-
-same-length : tie.Need-same-length Inv-loop μ-loop
-same-length c = search needs
 
 returns : tie.Need-returns Inv-loop μ-loop
 returns c = search needs
@@ -48,9 +44,6 @@ loop-less c = search needs
 loop-again : tie.Need-loop-again Inv-loop μ-loop
 loop-again c = search needs
 
-same-length-2 : tie.Need-same-length-2 Inv-loop μ-loop
-same-length-2 c = search needs
-
 returns-2 : tie.Need-returns-2 Inv-loop μ-loop
 returns-2 c = search needs
 
@@ -62,9 +55,8 @@ at-word-spec =
     μ-loop
     filled-requires
     loop-holds
-    slice-read-byte
+    element-copy-out-byte
     blank-requires
-    same-length
     returns
     add-q
     sub-q
@@ -72,5 +64,4 @@ at-word-spec =
     filled-requires-2
     loop-less
     loop-again
-    same-length-2
     returns-2)

@@ -1,14 +1,12 @@
--- `spelled` meets its contract: both lists keep their lengths, and each letter costs one of the bytes that are left.
+-- `spelled` meets its contract: each letter costs one of the bytes that are left.
 use Rattle.caselang.specs.Reading.{Sound}
-use mathlib.Core.Path.{_≡_}
-use lib.ListN.{length}
 use Prim.Native.Nat.{_+_, _≤_}
 use borrow.Author.Needs.{needs}
 use Rattle.caselang.proofs.input.spelled.Statement.{statement}
 use Rattle.caselang.proofs.input.spelled.Tie as tie
 
 abbrev Inv-loop : tie.InvT-loop
-Inv-loop buffer₀ letters₀ q₀ buffer letters q = Sound q (length buffer₀) (length letters₀) × (q .length + q .left ≤ q₀ .left) × (length buffer ≡ length buffer₀) × (length letters ≡ length letters₀)
+Inv-loop buffer₀ letters₀ q₀ buffer letters q = Sound q × (q .length + q .left ≤ q₀ .left)
 
 abbrev μ-loop : tie.MeasureT-loop
 μ-loop buffer₀ letters₀ q₀ buffer letters q = q .left
@@ -19,17 +17,11 @@ filled-requires c κs = search needs
 loop-holds : tie.Need-loop-holds Inv-loop μ-loop
 loop-holds c = search needs
 
-slice-read-byte : tie.Need-slice-read-byte Inv-loop μ-loop
-slice-read-byte c = search needs
+element-copy-out-byte : tie.Need-element-copy-out-byte Inv-loop μ-loop
+element-copy-out-byte c = search needs
 
 blank-requires : tie.Need-blank-requires Inv-loop μ-loop
 blank-requires c κs = search needs
-
-same-length : tie.Need-same-length Inv-loop μ-loop
-same-length c = search needs
-
-same-length-2 : tie.Need-same-length-2 Inv-loop μ-loop
-same-length-2 c = search needs
 
 returns : tie.Need-returns Inv-loop μ-loop
 returns c = search needs
@@ -52,12 +44,6 @@ loop-less c = search needs
 loop-again : tie.Need-loop-again Inv-loop μ-loop
 loop-again c = search needs
 
-same-length-3 : tie.Need-same-length-3 Inv-loop μ-loop
-same-length-3 c = search needs
-
-same-length-4 : tie.Need-same-length-4 Inv-loop μ-loop
-same-length-4 c = search needs
-
 returns-2 : tie.Need-returns-2 Inv-loop μ-loop
 returns-2 c = search needs
 
@@ -69,10 +55,8 @@ spelled-spec =
     μ-loop
     filled-requires
     loop-holds
-    slice-read-byte
+    element-copy-out-byte
     blank-requires
-    same-length
-    same-length-2
     returns
     with-letter-requires
     add-q
@@ -80,6 +64,4 @@ spelled-spec =
     filled-requires-2
     loop-less
     loop-again
-    same-length-3
-    same-length-4
     returns-2)

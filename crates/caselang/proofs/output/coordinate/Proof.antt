@@ -10,9 +10,6 @@ slice-aggregate-text c = search needs
 text-requires : tie.Need-text-requires
 text-requires c κs = search needs
 
-same-length : tie.Need-same-length
-same-length c = search needs
-
 returns : tie.Need-returns
 returns c = search needs
 
@@ -20,7 +17,7 @@ byte-requires : tie.Need-byte-requires
 byte-requires c κs = search needs
 
 float-to-bits-hex : tie.Need-float-to-bits-hex
-float-to-bits-hex c = let s = c .before .before .before .before in no-blank (s .before .before .args .x) (s .if1 .left)
+float-to-bits-hex c = let s = c .before .before in no-blank (s .before .args .x) (s .if1 .left)
 
 hex-requires : tie.Need-hex-requires
 hex-requires c κs = search needs
@@ -34,9 +31,6 @@ slice-aggregate-text-2 c = search needs
 text-requires-2 : tie.Need-text-requires-2
 text-requires-2 c κs = search needs
 
-same-length-2 : tie.Need-same-length-2
-same-length-2 c = search needs
-
 returns-2 : tie.Need-returns-2
 returns-2 c = search needs
 
@@ -46,7 +40,6 @@ coordinate-spec =
     (tie.spec
     slice-aggregate-text
     text-requires
-    same-length
     returns
     byte-requires
     float-to-bits-hex
@@ -54,5 +47,4 @@ coordinate-spec =
     array-share-prefix-all
     slice-aggregate-text-2
     text-requires-2
-    same-length-2
     returns-2)

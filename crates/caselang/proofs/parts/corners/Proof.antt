@@ -1,4 +1,4 @@
--- `corners` meets its contract: all lists keep their lengths, and i counts up to the list's length.
+-- `corners` meets its contract: the list keeps its length, and i counts up to the length that was read.
 use Rattle.caselang.specs.Reading.{Sound}
 use mathlib.Core.Path.{_≡_}
 use lib.ListN.{length}
@@ -8,7 +8,7 @@ use Rattle.caselang.proofs.parts.corners.Statement.{statement}
 use Rattle.caselang.proofs.parts.corners.Tie as tie
 
 abbrev Inv-loop : tie.InvT-loop
-Inv-loop buffer₀ letters₀ name list₀ q₀ n i₀ buffer letters list q i = Sound q (length buffer₀) (length letters₀) × (length buffer ≡ length buffer₀) × (length letters ≡ length letters₀) × (length list ≡ length list₀) × (i ≤ n)
+Inv-loop buffer₀ letters₀ name list₀ q₀ n i₀ buffer letters list q i = Sound q × (length list ≡ length list₀) × (i ≤ n)
 
 abbrev μ-loop : tie.MeasureT-loop
 μ-loop buffer₀ letters₀ name list₀ q₀ n i₀ buffer letters list q i = n - i
@@ -25,12 +25,6 @@ corner-requires c κs = search needs
 same-length : tie.Need-same-length Inv-loop μ-loop
 same-length c = search needs
 
-same-length-2 : tie.Need-same-length-2 Inv-loop μ-loop
-same-length-2 c = search needs
-
-same-length-3 : tie.Need-same-length-3 Inv-loop μ-loop
-same-length-3 c = search needs
-
 returns : tie.Need-returns Inv-loop μ-loop
 returns c = search needs
 
@@ -43,14 +37,8 @@ loop-less c = search needs
 loop-again : tie.Need-loop-again Inv-loop μ-loop
 loop-again c = search needs
 
-same-length-4 : tie.Need-same-length-4 Inv-loop μ-loop
-same-length-4 c = search needs
-
-same-length-5 : tie.Need-same-length-5 Inv-loop μ-loop
-same-length-5 c = search needs
-
-same-length-6 : tie.Need-same-length-6 Inv-loop μ-loop
-same-length-6 c = search needs
+same-length-2 : tie.Need-same-length-2 Inv-loop μ-loop
+same-length-2 c = search needs
 
 returns-2 : tie.Need-returns-2 Inv-loop μ-loop
 returns-2 c = search needs
@@ -65,13 +53,9 @@ corners-spec =
     loop-holds
     corner-requires
     same-length
-    same-length-2
-    same-length-3
     returns
     add-i
     loop-less
     loop-again
-    same-length-4
-    same-length-5
-    same-length-6
+    same-length-2
     returns-2)

