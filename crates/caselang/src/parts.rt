@@ -10,6 +10,11 @@ ghost use Prim.Native.Nat.{_+_, _<_, _≤_};
 ghost use lib.ListN.{length};
 ghost use Rattle.caselang.specs.Reading.{Same, Sound};
 
+// The lists of a solid that a request brings.
+pub type Coordinates = [f64; 8192];
+
+pub type Corners = [u32; 8192];
+
 fn failed(mut r: Reader) -> Reader
     ensures { λ q. ⌜ Same r q × (q .number ≡ 0) ⌝ }
 {
@@ -44,7 +49,13 @@ pub fn word(buffer: &mut Buffer, letters: &mut Letters, r: Reader, name: &[u8]) 
 }
 
 // One of two fixed words: the number is 0 for the first and 1 for the second.
-pub fn either(buffer: &mut Buffer, letters: &mut Letters, r: Reader, first: &[u8], second: &[u8]) -> Reader
+pub fn either(
+    buffer: &mut Buffer,
+    letters: &mut Letters,
+    r: Reader,
+    first: &[u8],
+    second: &[u8],
+) -> Reader
     requires { ⌜ Sound r ⌝ }
     ensures { λ q. ⌜ Sound q ⌝ }
 {
@@ -100,7 +111,13 @@ pub fn pattern(buffer: &mut Buffer, letters: &mut Letters, r: Reader) -> Reader
 }
 
 // A fixed word and a number of at most most.
-pub fn named(buffer: &mut Buffer, letters: &mut Letters, r: Reader, name: &[u8], most: usize) -> Reader
+pub fn named(
+    buffer: &mut Buffer,
+    letters: &mut Letters,
+    r: Reader,
+    name: &[u8],
+    most: usize,
+) -> Reader
     requires { ⌜ Sound r ⌝ }
     ensures { λ q. ⌜ Sound q × (q .number ≤ most) ⌝ }
 {
@@ -112,7 +129,7 @@ fn coordinate(
     buffer: &mut Buffer,
     letters: &mut Letters,
     r: Reader,
-    list: &mut [f64],
+    list: &mut Coordinates,
     i: usize,
 ) -> Reader
     requires { ⌜ Sound r ⌝ }
@@ -131,7 +148,7 @@ pub fn coordinates(
     letters: &mut Letters,
     r: Reader,
     name: &[u8],
-    list: &mut [f64],
+    list: &mut Coordinates,
 ) -> Reader
     requires { ⌜ Sound r ⌝ }
     ensures { λ q. ⌜ Sound q ⌝ }
@@ -150,7 +167,13 @@ pub fn coordinates(
     q
 }
 
-fn corner(buffer: &mut Buffer, letters: &mut Letters, r: Reader, list: &mut [u32], i: usize) -> Reader
+fn corner(
+    buffer: &mut Buffer,
+    letters: &mut Letters,
+    r: Reader,
+    list: &mut Corners,
+    i: usize,
+) -> Reader
     requires { ⌜ Sound r ⌝ }
     ensures { λ q. ⌜ Sound q ⌝ }
 {
@@ -167,7 +190,7 @@ pub fn corners(
     letters: &mut Letters,
     r: Reader,
     name: &[u8],
-    list: &mut [u32],
+    list: &mut Corners,
 ) -> Reader
     requires { ⌜ Sound r ⌝ }
     ensures { λ q. ⌜ Sound q ⌝ }

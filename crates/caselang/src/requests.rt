@@ -72,16 +72,16 @@ pub fn resumed(buffer: &mut Buffer, letters: &mut Letters, r: Reader) -> Reader
     q
 }
 
-// How many numbers of a solid's list of n are held where room for 8,192 is lent. Of a longer list only its length can matter, since checks 1 and 2 refuse it before any number is looked at: it is cut to a length with the same remainder by three that is still above both limits.
-pub fn held(n: usize) -> usize
-    ensures { λ r. ⌜ r ≤ 8192 ⌝ }
-{
+// How many numbers of a solid's list of n are held, in room for 8,192. Of a longer list only its length can matter, since checks 1 and 2 refuse it before any number is looked at: it is cut to a length with the same remainder by three that is still above both limits.
+pub fn held(n: usize) -> usize {
     if n <= 8192 { n } else { 8190 + n % 3 }
 }
 
-// The part of a room that is lent.
-pub fn lent(room: usize, most: usize) -> usize
-    ensures { λ r. ⌜ r ≤ most ⌝ }
-{
-    if room < most { room } else { most }
+// A number that fits, as it is: the parts of a request that are 32 bits wide are read so.
+pub fn narrow(n: usize) -> u32 {
+    if n <= 4294967295 {
+        n as u32
+    } else {
+        4294967295
+    }
 }

@@ -7,19 +7,36 @@ use caselang::input::Letters;
 use caselang::input::Reader;
 use caselang::output::Lines;
 use caselang::parts;
+use caselang::parts::Corners;
 use caselang::requests;
-ghost use Prim.Native.Nat.{_<_, _≤_};
-ghost use lib.ListN.{length};
 ghost use Rattle.caselang.specs.Reading.{Sound};
 
-// Lends the lists of the result.
-fn operated(out: &mut Lines, code: u32, ap: &[f64], ac: &[u32], bp: &[f64], bc: &[u32], np: usize, nc: usize, no: usize)
-    requires { ⌜ (np ≤ 49152) × (nc ≤ 196608) × (no ≤ 65536) ⌝ }
-{
+// Lends the lists of the result, of at most 16,384 vertices and 65,536 triangles.
+fn operated(
+    out: &mut Lines,
+    code: u32,
+    ap: &[f64],
+    ac: &[u32],
+    bp: &[f64],
+    bc: &[u32],
+    np: usize,
+    nc: usize,
+    no: usize,
+) {
     let mut coordinates = [0.0f64; 49152];
     let mut corners = [0u32; 196608];
     let mut origins = [0u32; 65536];
-    calls::op(out, code, ap, ac, bp, bc, &mut coordinates[..np], &mut corners[..nc], &mut origins[..no]);
+    calls::op(
+        out,
+        code,
+        ap,
+        ac,
+        bp,
+        bc,
+        fronts::coordinates_mut(&mut coordinates, np),
+        fronts::corners_mut(&mut corners, nc),
+        fronts::corners_mut(&mut origins, no),
+    );
 }
 
 pub fn op(buffer: &mut Buffer, letters: &mut Letters, out: &mut Lines, r: Reader) -> Reader
@@ -36,7 +53,17 @@ pub fn op(buffer: &mut Buffer, letters: &mut Letters, out: &mut Lines, r: Reader
     let room = reading::operation_room(buffer, letters, b.reader);
     let q = room.reader;
     if q.good {
-        operated(out, code.number as u32, fronts::coordinates(&ap, a.points), fronts::corners(&ac, a.corners), fronts::coordinates(&bp, b.points), fronts::corners(&bc, b.corners), room.coordinates, room.corners, room.origins);
+        operated(
+            out,
+            requests::narrow(code.number),
+            fronts::coordinates(&ap, a.points),
+            fronts::corners(&ac, a.corners),
+            fronts::coordinates(&bp, b.points),
+            fronts::corners(&bc, b.corners),
+            room.coordinates,
+            room.corners,
+            room.origins,
+        );
     }
     q
 }
@@ -49,11 +76,25 @@ pub fn count(buffer: &mut Buffer, letters: &mut Letters, out: &mut Lines, r: Rea
     let mut corners = [0u32; 8192];
     let letter = parts::either(buffer, letters, r, b"A", b"B");
     let p = reading::point(buffer, letters, letter);
-    let s = reading::solid(buffer, letters, p.reader, b"sp", &mut points, b"sc", &mut corners);
+    let s = reading::solid(
+        buffer,
+        letters,
+        p.reader,
+        b"sp",
+        &mut points,
+        b"sc",
+        &mut corners,
+    );
     let q = s.reader;
     if q.good {
         let v = p.point;
-        calls::count(out, letter.number == 1, v, fronts::coordinates(&points, s.points), fronts::corners(&corners, s.corners));
+        calls::count(
+            out,
+            letter.number == 1,
+            v,
+            fronts::coordinates(&points, s.points),
+            fronts::corners(&corners, s.corners),
+        );
     }
     q
 }
@@ -67,14 +108,17 @@ pub fn admit(buffer: &mut Buffer, letters: &mut Letters, out: &mut Lines, r: Rea
     let s = reading::solid(buffer, letters, r, b"sp", &mut points, b"sc", &mut corners);
     let q = s.reader;
     if q.good {
-        calls::admit(out, fronts::coordinates(&points, s.points), fronts::corners(&corners, s.corners));
+        calls::admit(
+            out,
+            fronts::coordinates(&points, s.points),
+            fronts::corners(&corners, s.corners),
+        );
     }
     q
 }
 
 // The lists of this request are not looked at by any check, so all of their numbers matter: longer lists than there is room for have no answer.
-fn part(out: &mut Lines, ac: &[u32], n: usize, bc: &[u32], m: usize, origin: u32)
-{
+fn part(out: &mut Lines, ac: &Corners, n: usize, bc: &Corners, m: usize, origin: u32) {
     if ac.len() < n {
         calls::unknown(out);
         return;
@@ -96,7 +140,14 @@ pub fn shown(buffer: &mut Buffer, letters: &mut Letters, out: &mut Lines, r: Rea
     let b = parts::corners(buffer, letters, a, b"bc", &mut bc);
     let q = parts::named(buffer, letters, b, b"origin", 4294967295);
     if q.good {
-        part(out, &ac, a.number, &bc, b.number, q.number as u32);
+        part(
+            out,
+            &ac,
+            a.number,
+            &bc,
+            b.number,
+            requests::narrow(q.number),
+        );
     }
     q
 }
@@ -113,9 +164,12 @@ pub fn read(buffer: &mut Buffer, letters: &mut Letters, out: &mut Lines, r: Read
     let first = parts::named(buffer, letters, b, b"room", usize::MAX);
     let q = parts::number(buffer, letters, first, usize::MAX);
     if q.good {
-        let np = requests::lent(first.number, 8192);
-        let nc = requests::lent(q.number, 8192);
-        calls::read(out, &bytes[..n], &mut points[..np], &mut corners[..nc]);
+        calls::read(
+            out,
+            fronts::bytes(&bytes, b.number),
+            fronts::coordinates_mut(&mut points, first.number),
+            fronts::corners_mut(&mut corners, q.number),
+        );
     }
     q
 }
@@ -131,8 +185,12 @@ pub fn write(buffer: &mut Buffer, letters: &mut Letters, out: &mut Lines, r: Rea
     let s = reading::solid(buffer, letters, r, b"sp", &mut points, b"sc", &mut corners);
     let q = parts::named(buffer, letters, s.reader, b"room", usize::MAX);
     if q.good {
-        let nb = requests::lent(q.number, 65536);
-        calls::write(out, fronts::coordinates(&points, s.points), fronts::corners(&corners, s.corners), &mut bytes[..nb]);
+        calls::write(
+            out,
+            fronts::coordinates(&points, s.points),
+            fronts::corners(&corners, s.corners),
+            fronts::bytes_mut(&mut bytes, q.number),
+        );
     }
     q
 }
@@ -144,7 +202,7 @@ pub fn solid(buffer: &mut Buffer, letters: &mut Letters, out: &mut Lines, r: Rea
     let mut bytes = [0u8; 65536];
     let q = parts::bytes(buffer, letters, r, &mut bytes);
     if q.good {
-        calls::solid(out, &bytes[..n]);
+        calls::solid(out, fronts::bytes(&bytes, q.number));
     }
     q
 }

@@ -2,12 +2,15 @@
 mod answers;
 mod calls;
 mod reading;
+
+use caselang::fronts;
 use caselang::input;
+use caselang::input::Buffer;
+use caselang::input::Letters;
 use caselang::input::Reader;
+use caselang::output::Lines;
 use caselang::requests;
 use caselang::requests::Kind;
-ghost use Prim.Native.Nat.{_<_};
-ghost use lib.ListN.{length};
 ghost use Rattle.caselang.specs.Reading.{Sound};
 
 // Reads and answers the request that the word at hand begins. One that cannot be read has no answer, and leaves the reader not good.
@@ -15,8 +18,7 @@ fn request(buffer: &mut Buffer, letters: &mut Letters, out: &mut Lines, mut r: R
     requires { ⌜ Sound r ⌝ }
     ensures { λ q. ⌜ Sound q ⌝ }
 {
-    let n = r.length;
-    let kind = requests::begun(&letters[..n]);
+    let kind = requests::begun(fronts::bytes(letters, r.length));
     r.held = false;
     match kind {
         Kind::Op => answers::op(buffer, letters, out, r),
@@ -49,9 +51,7 @@ fn answered(buffer: &mut Buffer, letters: &mut Letters, out: &mut Lines, r: Read
 }
 
 // Nothing says that the input ends. So requests are counted down, from a number that no run uses up.
-fn serve(buffer: &mut Buffer, letters: &mut Letters, out: &mut Lines)
-    requires { ⌜ (0 < length (now letters)) × (0 < length (now out)) ⌝ }
-{
+fn serve(buffer: &mut Buffer, letters: &mut Letters, out: &mut Lines) {
     let mut r = input::start();
     let mut turns = u64::MAX;
     while turns > 0 {
@@ -64,7 +64,6 @@ fn serve(buffer: &mut Buffer, letters: &mut Letters, out: &mut Lines)
     }
 }
 
-// 131,072 letters are 65,536 bytes in hex, the longest word that any request has.
 fn main() {
     let mut buffer = [0u8; 65536];
     let mut letters = [0u8; 131072];

@@ -4,6 +4,8 @@ use caselang::input::Buffer;
 use caselang::input::Letters;
 use caselang::input::Reader;
 use caselang::parts;
+use caselang::parts::Coordinates;
+use caselang::parts::Corners;
 use caselang::requests;
 use points::Point;
 ghost use Rattle.caselang.specs.Reading.{Sound};
@@ -16,7 +18,15 @@ pub struct Held {
 }
 
 // A solid with the names of its two lists.
-pub fn solid(buffer: &mut Buffer, letters: &mut Letters, r: Reader, points_name: &[u8], points: &mut [f64], corners_name: &[u8], corners: &mut [u32]) -> Held
+pub fn solid(
+    buffer: &mut Buffer,
+    letters: &mut Letters,
+    r: Reader,
+    points_name: &[u8],
+    points: &mut Coordinates,
+    corners_name: &[u8],
+    corners: &mut Corners,
+) -> Held
     requires { ⌜ Sound r ⌝ }
     ensures { λ q. ⌜ Sound (q .reader) ⌝ }
 {

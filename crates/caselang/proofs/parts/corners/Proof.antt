@@ -1,14 +1,12 @@
--- `corners` meets its contract: the list keeps its length, and i counts up to the length that was read.
+-- `corners` meets its contract: i counts up to the length that was read.
 use Rattle.caselang.specs.Reading.{Sound}
-use mathlib.Core.Path.{_≡_}
-use lib.ListN.{length}
 use Prim.Native.Nat.{_≤_, _-_}
 use borrow.Author.Needs.{needs}
 use Rattle.caselang.proofs.parts.corners.Statement.{statement}
 use Rattle.caselang.proofs.parts.corners.Tie as tie
 
 abbrev Inv-loop : tie.InvT-loop
-Inv-loop buffer₀ letters₀ name list₀ q₀ n i₀ buffer letters list q i = Sound q × (length list ≡ length list₀) × (i ≤ n)
+Inv-loop buffer₀ letters₀ name list₀ q₀ n i₀ buffer letters list q i = Sound q × (i ≤ n)
 
 abbrev μ-loop : tie.MeasureT-loop
 μ-loop buffer₀ letters₀ name list₀ q₀ n i₀ buffer letters list q i = n - i
@@ -22,9 +20,6 @@ loop-holds c = search needs
 corner-requires : tie.Need-corner-requires Inv-loop μ-loop
 corner-requires c κs = search needs
 
-same-length : tie.Need-same-length Inv-loop μ-loop
-same-length c = search needs
-
 returns : tie.Need-returns Inv-loop μ-loop
 returns c = search needs
 
@@ -36,9 +31,6 @@ loop-less c = search needs
 
 loop-again : tie.Need-loop-again Inv-loop μ-loop
 loop-again c = search needs
-
-same-length-2 : tie.Need-same-length-2 Inv-loop μ-loop
-same-length-2 c = search needs
 
 returns-2 : tie.Need-returns-2 Inv-loop μ-loop
 returns-2 c = search needs
@@ -52,10 +44,8 @@ corners-spec =
     named-requires
     loop-holds
     corner-requires
-    same-length
     returns
     add-i
     loop-less
     loop-again
-    same-length-2
     returns-2)
