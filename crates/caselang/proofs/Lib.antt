@@ -1,0 +1,2 @@
+-- Laws that no one function has to itself.
+mod Blank

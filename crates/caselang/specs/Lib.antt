@@ -1,0 +1,2 @@
+-- What the contracts of the case language cite.
+pub mod Reading
