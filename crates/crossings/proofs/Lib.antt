@@ -7,3 +7,4 @@ pub mod Kept
 pub mod Sizes
 pub mod Fits
 pub mod Gathering
+pub mod Apart

@@ -178,7 +178,7 @@ pub fn vv(a: Point, b: Point) -> Crossing
 }
 
 // "X(vA,eB) = S(vA,e) - S(vA,s)"
-pub fn ve(v: Point, e: Edge) -> Crossing
+fn gathered_ve(v: Point, e: Edge) -> Crossing
     ensures { λ r. ⌜ r ≡ C.ve v e ⌝ }
     ensures small { λ r. ⌜ natAbs (C.count r) ≤ 1 ⌝ }
 {
@@ -188,7 +188,7 @@ pub fn ve(v: Point, e: Edge) -> Crossing
 }
 
 // "X(eA,vB) = S(s,vB) - S(e,vB)"
-pub fn ev(e: Edge, v: Point) -> Crossing
+fn gathered_ev(e: Edge, v: Point) -> Crossing
     ensures { λ r. ⌜ r ≡ C.ev e v ⌝ }
     ensures small { λ r. ⌜ natAbs (C.count r) ≤ 1 ⌝ }
 {
@@ -198,7 +198,7 @@ pub fn ev(e: Edge, v: Point) -> Crossing
 }
 
 // "X(eA,eB) = S(eA's e,eB) - S(eA's s,eB) + S(eA,eB's e) - S(eA,eB's s)"
-pub fn ee(a: Edge, b: Edge) -> Crossing
+fn gathered_ee(a: Edge, b: Edge) -> Crossing
     ensures { λ r. ⌜ r ≡ C.ee a b ⌝ }
     ensures small { λ r. ⌜ natAbs (C.count r) ≤ 1 ⌝ }
 {
@@ -251,7 +251,7 @@ fn he(along: bool, p: Point, q: Point, e: Edge) -> Crossing
 }
 
 // "X(vA,fB) = - sum S(vA,h)"
-pub fn vf(v: Point, f: Facet) -> Crossing
+fn gathered_vf(v: Point, f: Facet) -> Crossing
     ensures { λ r. ⌜ r ≡ C.vf v f ⌝ }
     ensures small { λ r. ⌜ natAbs (C.count r) ≤ 1 ⌝ }
 {
@@ -262,7 +262,7 @@ pub fn vf(v: Point, f: Facet) -> Crossing
 }
 
 // "X(fA,vB) = sum S(h,vB)"
-pub fn fv(f: Facet, v: Point) -> Crossing
+fn gathered_fv(f: Facet, v: Point) -> Crossing
     ensures { λ r. ⌜ r ≡ C.fv f v ⌝ }
     ensures small { λ r. ⌜ natAbs (C.count r) ≤ 1 ⌝ }
 {
@@ -273,7 +273,7 @@ pub fn fv(f: Facet, v: Point) -> Crossing
 }
 
 // "X(eA,fB) = S(s,fB) - S(e,fB) - sum S(eA,h)"
-pub fn ef(e: Edge, f: Facet) -> Crossing
+fn gathered_ef(e: Edge, f: Facet) -> Crossing
     ensures { λ r. ⌜ r ≡ C.ef e f ⌝ }
     ensures small { λ r. ⌜ natAbs (C.count r) ≤ 2 ⌝ }
 {
@@ -287,7 +287,7 @@ pub fn ef(e: Edge, f: Facet) -> Crossing
 }
 
 // "X(fA,eB) = S(fA,e) - S(fA,s) - sum S(h,eB)"
-pub fn fe(f: Facet, e: Edge) -> Crossing
+fn gathered_fe(f: Facet, e: Edge) -> Crossing
     ensures { λ r. ⌜ r ≡ C.fe f e ⌝ }
     ensures small { λ r. ⌜ natAbs (C.count r) ≤ 2 ⌝ }
 {
@@ -298,4 +298,155 @@ pub fn fe(f: Facet, e: Edge) -> Crossing
     let end = fv(f, e.end);
     let of_b = Gather::empty(Axis::Z).with(end).with(start);
     of_b.with(rp).with(qr).with(pq).finish()
+}
+
+// ---- Most pairings miss by x alone: all points of the one thing lie on one side of all points of the other, so that S is the same at each pair of
+// vertices, and what it is worked out from cancels. That is looked at first.
+
+// Is B's point at least A's, by x?
+fn past(a: Point, b: Point) -> bool
+    ensures { λ r. ⌜ r ≡ P.at-least Axis.X (record { a = a; b = b }) ⌝ }
+{
+    a.x <= b.x
+}
+
+// Only if the second and the third say what the first says.
+fn agree(a: bool, b: bool, c: bool) -> bool
+    ensures { λ r. ⌜ (r ≡ true → (b ≡ a) × (c ≡ a)) ⌝ }
+{
+    if a {
+        if b { c } else { false }
+    } else {
+        if b { false } else { !c }
+    }
+}
+
+fn ve_apart(v: Point, e: Edge) -> bool
+    ensures { λ r. ⌜ (r ≡ true → C.ve v e ≡ Crossing.Miss) ⌝ }
+{
+    let first = past(v, e.start);
+    agree(first, first, past(v, e.end))
+}
+
+fn ev_apart(e: Edge, v: Point) -> bool
+    ensures { λ r. ⌜ (r ≡ true → C.ev e v ≡ Crossing.Miss) ⌝ }
+{
+    let first = past(e.start, v);
+    agree(first, first, past(e.end, v))
+}
+
+fn ee_apart(a: Edge, b: Edge) -> bool
+    ensures { λ r. ⌜ (r ≡ true → C.ee a b ≡ Crossing.Miss) ⌝ }
+{
+    let first = past(a.start, b.start);
+    if agree(first, past(a.start, b.end), past(a.end, b.start)) {
+        return agree(first, first, past(a.end, b.end));
+    }
+    false
+}
+
+fn vf_apart(v: Point, f: Facet) -> bool
+    ensures { λ r. ⌜ (r ≡ true → C.vf v f ≡ Crossing.Miss) ⌝ }
+{
+    agree(past(v, f.p), past(v, f.q), past(v, f.r))
+}
+
+fn fv_apart(f: Facet, v: Point) -> bool
+    ensures { λ r. ⌜ (r ≡ true → C.fv f v ≡ Crossing.Miss) ⌝ }
+{
+    agree(past(f.p, v), past(f.q, v), past(f.r, v))
+}
+
+fn ef_apart(e: Edge, f: Facet) -> bool
+    ensures { λ r. ⌜ (r ≡ true → C.ef e f ≡ Crossing.Miss) ⌝ }
+{
+    let first = past(e.start, f.p);
+    if agree(first, past(e.start, f.q), past(e.start, f.r)) {
+        if agree(first, past(e.end, f.p), past(e.end, f.q)) {
+            return agree(first, first, past(e.end, f.r));
+        }
+    }
+    false
+}
+
+fn fe_apart(f: Facet, e: Edge) -> bool
+    ensures { λ r. ⌜ (r ≡ true → C.fe f e ≡ Crossing.Miss) ⌝ }
+{
+    let first = past(f.p, e.start);
+    if agree(first, past(f.q, e.start), past(f.r, e.start)) {
+        if agree(first, past(f.p, e.end), past(f.q, e.end)) {
+            return agree(first, first, past(f.r, e.end));
+        }
+    }
+    false
+}
+
+pub fn ve(v: Point, e: Edge) -> Crossing
+    ensures { λ r. ⌜ r ≡ C.ve v e ⌝ }
+    ensures small { λ r. ⌜ natAbs (C.count r) ≤ 1 ⌝ }
+{
+    if ve_apart(v, e) {
+        return Crossing::Miss;
+    }
+    gathered_ve(v, e)
+}
+
+pub fn ev(e: Edge, v: Point) -> Crossing
+    ensures { λ r. ⌜ r ≡ C.ev e v ⌝ }
+    ensures small { λ r. ⌜ natAbs (C.count r) ≤ 1 ⌝ }
+{
+    if ev_apart(e, v) {
+        return Crossing::Miss;
+    }
+    gathered_ev(e, v)
+}
+
+pub fn ee(a: Edge, b: Edge) -> Crossing
+    ensures { λ r. ⌜ r ≡ C.ee a b ⌝ }
+    ensures small { λ r. ⌜ natAbs (C.count r) ≤ 1 ⌝ }
+{
+    if ee_apart(a, b) {
+        return Crossing::Miss;
+    }
+    gathered_ee(a, b)
+}
+
+pub fn vf(v: Point, f: Facet) -> Crossing
+    ensures { λ r. ⌜ r ≡ C.vf v f ⌝ }
+    ensures small { λ r. ⌜ natAbs (C.count r) ≤ 1 ⌝ }
+{
+    if vf_apart(v, f) {
+        return Crossing::Miss;
+    }
+    gathered_vf(v, f)
+}
+
+pub fn fv(f: Facet, v: Point) -> Crossing
+    ensures { λ r. ⌜ r ≡ C.fv f v ⌝ }
+    ensures small { λ r. ⌜ natAbs (C.count r) ≤ 1 ⌝ }
+{
+    if fv_apart(f, v) {
+        return Crossing::Miss;
+    }
+    gathered_fv(f, v)
+}
+
+pub fn ef(e: Edge, f: Facet) -> Crossing
+    ensures { λ r. ⌜ r ≡ C.ef e f ⌝ }
+    ensures small { λ r. ⌜ natAbs (C.count r) ≤ 2 ⌝ }
+{
+    if ef_apart(e, f) {
+        return Crossing::Miss;
+    }
+    gathered_ef(e, f)
+}
+
+pub fn fe(f: Facet, e: Edge) -> Crossing
+    ensures { λ r. ⌜ r ≡ C.fe f e ⌝ }
+    ensures small { λ r. ⌜ natAbs (C.count r) ≤ 2 ⌝ }
+{
+    if fe_apart(f, e) {
+        return Crossing::Miss;
+    }
+    gathered_fe(f, e)
 }

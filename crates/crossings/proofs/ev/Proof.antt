@@ -1,54 +1,21 @@
--- `ev` meets its contract: it gathers its lower pairings.
+-- `ev` meets its contract: it misses, or its lower pairings are gathered.
+use mathlib.Core.Path.{sym, ap}
+use native.Mathlib.Omega.{arith}
 use borrow.Author.Needs.{needs}
-use Rattle.crossings.specs.Crossings.{ev}
-use Rattle.crossings.proofs.Gathering.{none, one-more, one-less, all-of, sized}
-use Rattle.crossings.proofs.Sizes.{small-ev}
 use Rattle.crossings.proofs.ev.Statement.{statement}
 use Rattle.crossings.proofs.ev.Tie as tie
 
-vv-requires : tie.Need-vv-requires
-vv-requires c κs = search needs
-
-vv-requires-2 : tie.Need-vv-requires-2
-vv-requires-2 c κs = search needs
-
-against-requires : tie.Need-against-requires
-against-requires c κs = search needs
-
-empty-requires : tie.Need-empty-requires
-empty-requires c κs = search needs
-
-with-requires : tie.Need-with-requires
-with-requires c κs = search needs
-
-with-requires-2 : tie.Need-with-requires-2
-with-requires-2 c κs = search needs
-
-finish-requires : tie.Need-finish-requires
-finish-requires c κs = search needs
+ev-apart-requires : tie.Need-ev-apart-requires
+ev-apart-requires c κs = search needs
 
 returns : tie.Need-returns
-unfolding ev
-returns c =
-    let w2 = c .before in
-    let w1 = w2 .before in
-    let end = w1 .before .before in
-    let start = end .before .before in
-    let a = start .before .args in
-    let g0 = none (w1 .before .empty .ensures .0) in
-    let g1 = one-less g0 (end .before .vv2 .ensures .0) (end .against .ensures .0) (w1 .with .ensures .0) in
-    let g2 = one-more g1 (start .vv .ensures .0) (w2 .with2 .ensures .0) in
-    sized (all-of g2 (c .finish .ensures)) (small-ev (a .e) (a .v))
+returns c = (sym (c .before .ev-apart .ensures (c .if1 .taken)), omega arith)
+
+gathered-ev-requires : tie.Need-gathered-ev-requires
+gathered-ev-requires c κs = search needs
+
+returns-2 : tie.Need-returns-2
+returns-2 c = search needs
 
 pub ev-spec : {M : Type 1} → statement M
-ev-spec =
-    tie.close
-    (tie.spec
-    vv-requires
-    vv-requires-2
-    against-requires
-    empty-requires
-    with-requires
-    with-requires-2
-    finish-requires
-    returns)
+ev-spec = tie.close (tie.spec ev-apart-requires returns gathered-ev-requires returns-2)

@@ -1,61 +1,21 @@
--- `fv` meets its contract: it gathers its lower pairings.
+-- `fv` meets its contract: it misses, or its lower pairings are gathered.
+use mathlib.Core.Path.{sym, ap}
+use native.Mathlib.Omega.{arith}
 use borrow.Author.Needs.{needs}
-use Rattle.crossings.specs.Crossings.{fv, ev}
-use Rattle.crossings.proofs.Gathering.{none, half-more, all-of, sized}
-use Rattle.crossings.proofs.Sizes.{small-fv}
 use Rattle.crossings.proofs.fv.Statement.{statement}
 use Rattle.crossings.proofs.fv.Tie as tie
 
-hv-requires : tie.Need-hv-requires
-hv-requires c κs = search needs
-
-hv-requires-2 : tie.Need-hv-requires-2
-hv-requires-2 c κs = search needs
-
-hv-requires-3 : tie.Need-hv-requires-3
-hv-requires-3 c κs = search needs
-
-empty-requires : tie.Need-empty-requires
-empty-requires c κs = search needs
-
-with-requires : tie.Need-with-requires
-with-requires c κs = search needs
-
-with-requires-2 : tie.Need-with-requires-2
-with-requires-2 c κs = search needs
-
-with-requires-3 : tie.Need-with-requires-3
-with-requires-3 c κs = search needs
-
-finish-requires : tie.Need-finish-requires
-finish-requires c κs = search needs
+fv-apart-requires : tie.Need-fv-apart-requires
+fv-apart-requires c κs = search needs
 
 returns : tie.Need-returns
-unfolding fv
-returns c =
-    let w3 = c .before in
-    let w2 = w3 .before in
-    let w1 = w2 .before in
-    let rp = w1 .before .before in
-    let qr = rp .before in
-    let pq = qr .before in
-    let a = pq .before .args in
-    let g0 = none (w1 .before .empty .ensures .0) in
-    let g1 = half-more g0 (λ h. ev h (a .v)) (a .f .rp) (a .f .r) (a .f .p) (rp .hv3 .ensures .0) (w1 .with .ensures .0) in
-    let g2 = half-more g1 (λ h. ev h (a .v)) (a .f .qr) (a .f .q) (a .f .r) (qr .hv2 .ensures .0) (w2 .with2 .ensures .0) in
-    let g3 = half-more g2 (λ h. ev h (a .v)) (a .f .pq) (a .f .p) (a .f .q) (pq .hv .ensures .0) (w3 .with3 .ensures .0) in
-    sized (all-of g3 (c .finish .ensures)) (small-fv (a .f) (a .v))
+returns c = (sym (c .before .fv-apart .ensures (c .if1 .taken)), omega arith)
+
+gathered-fv-requires : tie.Need-gathered-fv-requires
+gathered-fv-requires c κs = search needs
+
+returns-2 : tie.Need-returns-2
+returns-2 c = search needs
 
 pub fv-spec : {M : Type 1} → statement M
-fv-spec =
-    tie.close
-    (tie.spec
-    hv-requires
-    hv-requires-2
-    hv-requires-3
-    empty-requires
-    with-requires
-    with-requires-2
-    with-requires-3
-    finish-requires
-    returns)
+fv-spec = tie.close (tie.spec fv-apart-requires returns gathered-fv-requires returns-2)

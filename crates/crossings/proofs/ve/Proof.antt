@@ -1,54 +1,21 @@
--- `ve` meets its contract: it gathers its lower pairings.
+-- `ve` meets its contract: it misses, or its lower pairings are gathered.
+use mathlib.Core.Path.{sym, ap}
+use native.Mathlib.Omega.{arith}
 use borrow.Author.Needs.{needs}
-use Rattle.crossings.specs.Crossings.{ve}
-use Rattle.crossings.proofs.Gathering.{none, one-more, one-less, all-of, sized}
-use Rattle.crossings.proofs.Sizes.{small-ve}
 use Rattle.crossings.proofs.ve.Statement.{statement}
 use Rattle.crossings.proofs.ve.Tie as tie
 
-vv-requires : tie.Need-vv-requires
-vv-requires c κs = search needs
-
-against-requires : tie.Need-against-requires
-against-requires c κs = search needs
-
-vv-requires-2 : tie.Need-vv-requires-2
-vv-requires-2 c κs = search needs
-
-empty-requires : tie.Need-empty-requires
-empty-requires c κs = search needs
-
-with-requires : tie.Need-with-requires
-with-requires c κs = search needs
-
-with-requires-2 : tie.Need-with-requires-2
-with-requires-2 c κs = search needs
-
-finish-requires : tie.Need-finish-requires
-finish-requires c κs = search needs
+ve-apart-requires : tie.Need-ve-apart-requires
+ve-apart-requires c κs = search needs
 
 returns : tie.Need-returns
-unfolding ve
-returns c =
-    let w2 = c .before in
-    let w1 = w2 .before in
-    let end = w1 .before .before in
-    let start = end .before in
-    let a = start .before .before .args in
-    let g0 = none (w1 .before .empty .ensures .0) in
-    let g1 = one-more g0 (end .vv2 .ensures .0) (w1 .with .ensures .0) in
-    let g2 = one-less g1 (start .before .vv .ensures .0) (start .against .ensures .0) (w2 .with2 .ensures .0) in
-    sized (all-of g2 (c .finish .ensures)) (small-ve (a .v) (a .e))
+returns c = (sym (c .before .ve-apart .ensures (c .if1 .taken)), omega arith)
+
+gathered-ve-requires : tie.Need-gathered-ve-requires
+gathered-ve-requires c κs = search needs
+
+returns-2 : tie.Need-returns-2
+returns-2 c = search needs
 
 pub ve-spec : {M : Type 1} → statement M
-ve-spec =
-    tie.close
-    (tie.spec
-    vv-requires
-    against-requires
-    vv-requires-2
-    empty-requires
-    with-requires
-    with-requires-2
-    finish-requires
-    returns)
+ve-spec = tie.close (tie.spec ve-apart-requires returns gathered-ve-requires returns-2)

@@ -1,0 +1,89 @@
+-- Where all points of the one thing lie on one side, by x, of all points of the other, the pairing misses: S is the same at each pair of vertices, so
+-- that vertex and edge miss, and so does all that is worked out from them.
+use mathlib.Core.Path.{_≡_, refl, ap}
+use mathlib.Core.Bool.{Bool, true, false, not}
+use mathlib.Core.List.{[], _∷_}
+use Rattle.sums.specs.Lists.{sumOf}
+use Rattle.sums.proofs.Tests.{never}
+use Rattle.points.specs.declared.Point.{Point}
+use Rattle.points.specs.declared.Axis.{Axis}
+use Rattle.points.specs.declared.Axis.the-variants.{X, Y, Z}
+use Rattle.points.specs.Points.{at-least}
+use Rattle.crossings.specs.declared.Edge.{Edge}
+use Rattle.crossings.specs.declared.Facet.{Facet}
+use Rattle.crossings.specs.declared.Crossing.{Crossing}
+use Rattle.crossings.specs.declared.Crossing.the-variants.{Miss}
+use Rattle.crossings.specs.Crossings.{S, crossing, paired, half, against, ve, ev, vf, fv, ee, ef, fe}
+
+abbrev pub side : Point → Point → Bool
+side a b = at-least X (record { a = a; b = b })
+
+abbrev edge : Point → Point → Edge
+edge p q = record { start = p; end = q }
+
+pub agree-not : (b : Bool) → not b ≡ true → b ≡ false
+agree-not true e = absurd (never false e refl)
+agree-not false e = refl
+
+-- ---- pairings of misses
+three : (k : Axis) {c d e : Crossing} → c ≡ Miss → d ≡ Miss → e ≡ Miss → paired k (c ∷ d ∷ e ∷ []) ≡ Miss
+unfolding paired crossing S sumOf
+three k p q r = rw (p, q, r)
+
+four : (k : Axis) {c d e f : Crossing} → c ≡ Miss → d ≡ Miss → e ≡ Miss → f ≡ Miss → paired k (c ∷ d ∷ e ∷ f ∷ []) ≡ Miss
+unfolding paired crossing S sumOf
+four k p q r s = rw (p, q, r, s)
+
+five : (k : Axis) {c d e f g : Crossing} → c ≡ Miss → d ≡ Miss → e ≡ Miss → f ≡ Miss → g ≡ Miss → paired k (c ∷ d ∷ e ∷ f ∷ g ∷ []) ≡ Miss
+unfolding paired crossing S sumOf
+five k p q r s t = rw (p, q, r, s, t)
+
+half-miss : (g : Edge → Crossing) (along : Bool) (p q : Point) → g (edge p q) ≡ Miss → g (edge q p) ≡ Miss → half g along p q ≡ Miss
+half-miss g true p q d e = d
+half-miss g false p q d e = ap against e
+
+-- ---- all on one side
+module _ (t : Bool) where
+  pub miss-ve : (v : Point) (e : Edge) → side v (e .start) ≡ t → side v (e .end) ≡ t → ve v e ≡ Miss
+  unfolding ve paired crossing S sumOf
+  miss-ve v e d f = rw (d, f) (elim t [ true ↦ refl | false ↦ refl ])
+
+  pub miss-ev : (e : Edge) (v : Point) → side (e .start) v ≡ t → side (e .end) v ≡ t → ev e v ≡ Miss
+  unfolding ev paired crossing S sumOf
+  miss-ev e v d f = rw (d, f) (elim t [ true ↦ refl | false ↦ refl ])
+
+  pub miss-vf : (v : Point) (f : Facet) → side v (f .p) ≡ t → side v (f .q) ≡ t → side v (f .r) ≡ t → vf v f ≡ Miss
+  unfolding vf
+  miss-vf v f p q r = three Y (of (f .pq) (f .p) (f .q) p q) (of (f .qr) (f .q) (f .r) q r) (of (f .rp) (f .r) (f .p) r p)
+    where
+      of : (along : Bool) (a b : Point) → side v a ≡ t → side v b ≡ t → half (λ h. against (ve v h)) along a b ≡ Miss
+      of along a b d e = half-miss (λ h. against (ve v h)) along a b (ap against (miss-ve v (edge a b) d e)) (ap against (miss-ve v (edge b a) e d))
+
+  pub miss-fv : (f : Facet) (v : Point) → side (f .p) v ≡ t → side (f .q) v ≡ t → side (f .r) v ≡ t → fv f v ≡ Miss
+  unfolding fv
+  miss-fv f v p q r = three Y (of (f .pq) (f .p) (f .q) p q) (of (f .qr) (f .q) (f .r) q r) (of (f .rp) (f .r) (f .p) r p)
+    where
+      of : (along : Bool) (a b : Point) → side a v ≡ t → side b v ≡ t → half (λ h. ev h v) along a b ≡ Miss
+      of along a b d e = half-miss (λ h. ev h v) along a b (miss-ev (edge a b) v d e) (miss-ev (edge b a) v e d)
+
+  pub miss-ee : (a b : Edge) → side (a .start) (b .start) ≡ t → side (a .start) (b .end) ≡ t → side (a .end) (b .start) ≡ t → side (a .end) (b .end) ≡ t → ee a b ≡ Miss
+  unfolding ee
+  miss-ee a b ss se es ee′ = four Y (ap against (miss-ve (a .start) b ss se)) (miss-ve (a .end) b es ee′) (ap against (miss-ev a (b .start) ss es)) (miss-ev a (b .end) se ee′)
+
+  pub miss-ef : (e : Edge) (f : Facet) → side (e .start) (f .p) ≡ t → side (e .start) (f .q) ≡ t → side (e .start) (f .r) ≡ t
+      → side (e .end) (f .p) ≡ t → side (e .end) (f .q) ≡ t → side (e .end) (f .r) ≡ t → ef e f ≡ Miss
+  unfolding ef
+  miss-ef e f sp sq sr ep eq er =
+      five Z (miss-vf (e .start) f sp sq sr) (ap against (miss-vf (e .end) f ep eq er)) (of (f .pq) (f .p) (f .q) sp sq ep eq) (of (f .qr) (f .q) (f .r) sq sr eq er) (of (f .rp) (f .r) (f .p) sr sp er ep)
+    where
+      of : (along : Bool) (a b : Point) → side (e .start) a ≡ t → side (e .start) b ≡ t → side (e .end) a ≡ t → side (e .end) b ≡ t → half (λ h. against (ee e h)) along a b ≡ Miss
+      of along a b sa sb ea eb = half-miss (λ h. against (ee e h)) along a b (ap against (miss-ee e (edge a b) sa sb ea eb)) (ap against (miss-ee e (edge b a) sb sa eb ea))
+
+  pub miss-fe : (f : Facet) (e : Edge) → side (f .p) (e .start) ≡ t → side (f .q) (e .start) ≡ t → side (f .r) (e .start) ≡ t
+      → side (f .p) (e .end) ≡ t → side (f .q) (e .end) ≡ t → side (f .r) (e .end) ≡ t → fe f e ≡ Miss
+  unfolding fe
+  miss-fe f e ps qs rs pe qe re =
+      five Z (of (f .pq) (f .p) (f .q) ps qs pe qe) (of (f .qr) (f .q) (f .r) qs rs qe re) (of (f .rp) (f .r) (f .p) rs ps re pe) (ap against (miss-fv f (e .start) ps qs rs)) (miss-fv f (e .end) pe qe re)
+    where
+      of : (along : Bool) (a b : Point) → side a (e .start) ≡ t → side b (e .start) ≡ t → side a (e .end) ≡ t → side b (e .end) ≡ t → half (λ h. against (ee h e)) along a b ≡ Miss
+      of along a b sa sb ea eb = half-miss (λ h. against (ee h e)) along a b (ap against (miss-ee (edge a b) e sa ea sb eb)) (ap against (miss-ee (edge b a) e sb eb sa ea))

@@ -1,0 +1,61 @@
+-- `fe_apart` meets its contract.
+use Rattle.sums.proofs.Tests.{never}
+use mathlib.Core.Bool.{false}
+use mathlib.Core.Path.{sym, ap, _∙_, refl}
+use Rattle.crossings.proofs.Apart.{miss-fe}
+use borrow.Author.Needs.{needs}
+use Rattle.crossings.proofs.fe_apart.Statement.{statement}
+use Rattle.crossings.proofs.fe_apart.Tie as tie
+
+past-requires : tie.Need-past-requires
+past-requires c κs = search needs
+
+past-requires-2 : tie.Need-past-requires-2
+past-requires-2 c κs = search needs
+
+past-requires-3 : tie.Need-past-requires-3
+past-requires-3 c κs = search needs
+
+agree-requires : tie.Need-agree-requires
+agree-requires c κs = search needs
+
+past-requires-4 : tie.Need-past-requires-4
+past-requires-4 c κs = search needs
+
+past-requires-5 : tie.Need-past-requires-5
+past-requires-5 c κs = search needs
+
+agree-requires-2 : tie.Need-agree-requires-2
+agree-requires-2 c κs = search needs
+
+past-requires-6 : tie.Need-past-requires-6
+past-requires-6 c κs = search needs
+
+agree-requires-3 : tie.Need-agree-requires-3
+agree-requires-3 c κs = search needs
+
+returns : tie.Need-returns
+returns c = λ e. let g = c .before .before .before .before .before .before .before .agree .ensures (c .before .before .before .before .before .before .if1 .taken) in let h = c .before .before .before .agree2 .ensures (c .before .before .if2 .taken) in let k = c .agree3 .ensures e in let a = c .before .before .before .before .before .before .before .before .before .before .before .args in let p = c .before .before .before .before .before .before .before .before .before .before .past in miss-fe (p .result) (a .f) (a .e) (sym (p .ensures)) (sym (c .before .before .before .before .before .before .before .before .before .past2 .ensures) ∙ g .0) (sym (c .before .before .before .before .before .before .before .before .past3 .ensures) ∙ g .1) (sym (c .before .before .before .before .before .past4 .ensures) ∙ h .0) (sym (c .before .before .before .before .past5 .ensures) ∙ h .1) (sym (c .before .past6 .ensures) ∙ k .1)
+
+returns-2 : tie.Need-returns-2
+returns-2 c = λ e. absurd (never false e refl)
+
+returns-3 : tie.Need-returns-3
+returns-3 c = λ e. absurd (never false e refl)
+
+pub fe-apart-spec : {M : Type 1} → statement M
+fe-apart-spec =
+    tie.close
+    (tie.spec
+    past-requires
+    past-requires-2
+    past-requires-3
+    agree-requires
+    past-requires-4
+    past-requires-5
+    agree-requires-2
+    past-requires-6
+    agree-requires-3
+    returns
+    returns-2
+    returns-3)
