@@ -1,16 +1,18 @@
 -- The ends of a composite edge: an end with count 0 may be left out, and turning every piece round is negating every count.
-use mathlib.Core.Path.{_≡_, refl, sym, ap₂, _∙_}
-use mathlib.Core.Bool.{Bool, true, false, not}
+use mathlib.Core.Path.{_≡_, refl, sym, ap, ap₂, _∙_}
+use mathlib.Core.Bool.{Bool, true, false, not, _&&_}
 use mathlib.Core.List.{List, [], _∷_, _++_, map, flatMap, zip, map-append, map-id, append-nil}
 use Prim.Native.Nat.{ℕ, zero, suc, _+_, _*_, _<_, _≤_}
 use native.Mathlib.Numerals.{add-one}
 use native.Mathlib.Omega.{arith}
 use lib.IntN.{ℤ, pos, negsuc, negℤ-negℤ}
-use lib.ListN.{length, set, take, replicate, length-set}
-use lib.Seq.{take-suc-set}
+use borrow.Author.Tests.{eqb-true}
+use lib.Dec.{eqb}
+use lib.ListN.{length, getD, set, take, replicate, length-set}
+use lib.Seq.{take-suc, take-suc-set}
 use Rattle.sums.specs.Lists.{upTo, above, below, any, nonzero}
 use Rattle.sums.proofs.Sums.{flat-append, flat-map}
-use Rattle.sums.proofs.Tests.{or-false, never}
+use Rattle.sums.proofs.Tests.{or-false, and-true, not-true, never}
 use Rattle.sums.proofs.UpTo.{map-upTo-suc}
 use Rattle.sums.proofs.Joining.{turned-pieces}
 use Rattle.results.specs.declared.End.{End}
@@ -123,3 +125,11 @@ module _ {t : Table} {l : Line} {all : List End} {n i : ℕ} (g : Gathered t l a
 pub gathered-all : {t : Table} {l : Line} {all : List End} {n i : ℕ} → Gathered t l all n i → i ≡ l .many → pieces (take n all) ≡ line-pieces t l
 unfolding line-pieces
 gathered-all {t} {l} {all} {n} {i} g e = same-pieces (g .same) ∙ turn-pieces (l .against) (line-ends t l i) ∙ rw e
+
+-- where the first two count 0 and there are no more, there are no pieces
+pub gathered-quiet : {t : Table} {l : Line} {all : List End} {n i : ℕ} (d : End) → Gathered t l all n i → i ≡ l .many
+    → eqb n 2 && not (some-count (getD all 0 d ∷ getD all 1 d ∷ [])) ≡ true → line-pieces t l ≡ []
+gathered-quiet {t} {l} {all} {n} {i} d g e h =
+    let b = and-true (eqb n 2) (not (some-count (getD all 0 d ∷ getD all 1 d ∷ []))) h in
+    let two : take 2 all ≡ getD all 0 d ∷ getD all 1 d ∷ [] = rw (take-suc all 1 d (omega (arith, g .long)), take-suc all 0 d (omega (arith, g .long))) in
+    sym (gathered-all g e) ∙ ap (λ k. pieces (take k all)) (eqb-true n 2 (b .0)) ∙ ap pieces two ∙ quiet-pieces _ (not-true _ (b .1))

@@ -5,13 +5,29 @@ use crate::ends;
 use crate::places;
 use results::End;
 ghost use mathlib.Core.Path.{_≡_};
+ghost use mathlib.Core.Bool.{not, _&&_};
+ghost use mathlib.Core.List.{[], _∷_};
 ghost use Prim.Native.Nat.{_+_, _*_, _<_, _≤_};
+ghost use lib.Dec.{eqb};
 ghost use lib.ListN.{length};
 ghost use Rattle.joining.specs.Flat.{flat, Behind};
 ghost use Rattle.building.specs.Table as T;
 
+// The first two of n gathered ends count 0, and there are no more: no crossing counts either.
+fn quiet(n: usize, a: End, b: End) -> bool
+    ensures { λ r. ⌜ r ≡ (eqb n 2 && not (T.some-count (a ∷ b ∷ []))) ⌝ }
+{
+    if n == 2 {
+        if ends::counts(a) {
+            return false;
+        }
+        return !ends::counts(b);
+    }
+    false
+}
+
 // "start (minus its inclusion), end (its inclusion), then crossings"; of a half-edge against its edge each count is negated, which turns each piece
-// round. They go behind the first `at` numbers of the list.
+// round. They go behind the first `at` numbers of the list. Where no end counts there is nothing to join.
 fn line_pieces(inc: &[i16], num: &[u32], l: Line, list: &mut [u32], at: usize) -> usize
     requires { ⌜ T.Ok (T.table (now inc) (now num)) × T.Within (length (now inc)) l ⌝ }
     requires { ⌜ at + length (flat (T.line-pieces (T.table (now inc) (now num)) l)) ≤ length (now list) ⌝ }
@@ -38,6 +54,9 @@ fn line_pieces(inc: &[i16], num: &[u32], l: Line, list: &mut [u32], at: usize) -
             n += 1;
         }
         i += 1;
+    }
+    if quiet(n, all[0], all[1]) {
+        return at;
     }
     joining::join_at(all, n, list, at)
 }

@@ -2,3 +2,4 @@ pub mod Flat
 pub mod Placing
 pub mod Sign
 pub mod Joined
+pub mod Front

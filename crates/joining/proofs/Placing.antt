@@ -1,16 +1,15 @@
 -- What the loops that put starts and stops have done: what is left to put, put now, gives what the whole gives.
-use mathlib.Core.Path.{_≡_, refl, ap}
-use mathlib.Core.List.{List}
-use Prim.Native.Nat.{ℕ, suc, _+_, _-_, _*_, _/_, _<_, _≤_}
-use native.Mathlib.Numerals.{add-one}
+use mathlib.Core.Path.{_≡_, refl, ap, _∙_}
+use mathlib.Core.List.{List, [], _∷_}
+use Prim.Native.Nat.{ℕ, zero, suc, _+_, _-_, _*_, _/_, _<_, _≤_}
 use native.Mathlib.Omega.{arith}
 use borrow.Author.Tests.{lt-ltb, le-ltb}
-use lib.ListN.{length, getD, set, take, drop, length-take, drop-of-length-le}
-use lib.Seq.{drop-cons, getD-take, length-take-le}
+use lib.IntN.{pos}
+use lib.ListN.{length, getD, set}
 use Rattle.sums.specs.Lists.{above, below}
 use Rattle.results.specs.declared.End.{End}
 use Rattle.joining.specs.declared.Counts.{Counts}
-use Rattle.joining.specs.Placing.{blank, put-once, put-times, placed, all-placed}
+use Rattle.joining.specs.Placing.{put-once, put-times, placed, all-placed}
 
 abbrev pub Side : Type 0
 Side = List ℕ × ℕ
@@ -44,14 +43,19 @@ pub placed-by : (l : List ℕ) (c : Counts) (e : End) (a b k j : ℕ) (l₁ l₂
     → (l₂ ≡ placed (l, c) e .0) × (record { starts = k; stops = j } ≡ placed (l, c) e .1)
 placed-by l c e a b k j l₁ l₂ ea eb p q = rw (q .0, q .1, p .0, p .1, ea, eb) (refl, refl)
 
--- ---- the first n ends
-pub placed-step : (xs : List End) (n i : ℕ) → n ≤ length xs → i < n → (s : State) (l : List ℕ) (c : Counts)
-    → (l ≡ placed s (getD xs i blank) .0) × (c ≡ placed s (getD xs i blank) .1) → all-placed s (drop i (take n xs)) ≡ all-placed (l, c) (drop (i + 1) (take n xs))
-placed-step xs n i f h s l c e =
-    let k : i < length (take n xs) = rw (length-take-le n xs f) h in
-    rw (drop-cons (take n xs) i blank k, getD-take n xs i blank h, add-one i, e .0, e .1)
+-- ---- every end: what is placed after the first i of them, and after all
+-- what would stand beyond the ends
+abbrev pub blank : End
+blank = record { vertex = 0; count = pos 0 }
 
-pub placed-done : (xs : List End) (n i : ℕ) → n ≤ i → (s t : State) → all-placed s (drop i (take n xs)) ≡ t → s ≡ t
-placed-done xs n i h s t e =
-    let k : length (take n xs) ≤ i = rw (length-take n xs) (omega arith) in
-    rw (drop-of-length-le (take n xs) k) at e
+abbrev pub placed-to : List End → State → ℕ → State
+placed-to es s zero = s
+placed-to es s (suc i) = placed (placed-to es s i) (getD es i blank)
+
+first-placed : (e : End) (es : List End) (s : State) (i : ℕ) → placed-to (e ∷ es) s (suc i) ≡ placed-to es (placed s e) i
+first-placed e es s zero = refl
+first-placed e es s (suc i) = ap {B = State} (λ (t : State). placed t (getD es i blank)) (first-placed e es s i)
+
+pub placed-to-all : (es : List End) (s : State) → placed-to es s (length es) ≡ all-placed s es
+placed-to-all [] s = refl
+placed-to-all (e ∷ es) s = first-placed e es s (length es) ∙ placed-to-all es (placed s e)

@@ -4,15 +4,10 @@ use mathlib.Core.Bool.{cond}
 use mathlib.Core.List.{List, [], _∷_}
 use Prim.Native.Nat.{ℕ, zero, suc, _+_, _*_, _/_}
 use lib.Dec.{ltb}
-use lib.IntN.{pos}
 use lib.ListN.{length, set}
 use Rattle.sums.specs.Lists.{above, below}
 use Rattle.results.specs.declared.End.{End}
 use Rattle.joining.specs.declared.Counts.{Counts}
-
--- what would stand beyond the ends
-abbrev pub blank : End
-blank = record { vertex = 0; count = pos 0 }
 
 -- the list, and the next piece on one side
 abbrev pub put-once : ℕ → ℕ → List ℕ × ℕ → List ℕ × ℕ

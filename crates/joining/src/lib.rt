@@ -74,24 +74,32 @@ fn place_end(list: &mut [u32], c: Counts, e: End) -> Counts
     Counts { starts, stops }
 }
 
-// The one walk over the gathered ends: the first n of them, in order.
-pub fn join_first(all: [End; 258], n: usize, list: &mut [u32]) -> Counts
-    requires { ⌜ n ≤ 258 ⌝ }
-    ensures { λ r. ⌜ (now (list .exit) ≡ P.joined (take n all) (now (list .entry)) .0) × (r ≡ P.joined (take n all) (now (list .entry)) .1) ⌝ }
+// The ends in a lent list of records, vertex number with signed count: this thin function walks it once and places each as it comes.
+fn join(ends: &[End], list: &mut [u32]) -> Counts
+    ensures { λ r. ⌜ (now (list .exit) ≡ P.joined (now (ends .entry)) (now (list .entry)) .0) × (r ≡ P.joined (now (ends .entry)) (now (list .entry)) .1) ⌝ }
 {
     let mut c = Counts {
         starts: 0,
         stops: 0,
     };
     let mut i = 0;
-    while i < n {
-        c = place_end(list, c, all[i]);
+    while i < ends.len() {
+        c = place_end(list, c, ends[i]);
         i += 1;
     }
     c
 }
 
-// The pieces of the first n ends go behind the first `at` numbers of the list.
+// The first n of the gathered ends are lent to it. No reference to a record is in this contract, so callers need not know of the loan.
+pub fn join_first(all: [End; 258], n: usize, list: &mut [u32]) -> Counts
+    requires { ⌜ n ≤ 258 ⌝ }
+    ensures { λ r. ⌜ (now (list .exit) ≡ P.joined (take n all) (now (list .entry)) .0) × (r ≡ P.joined (take n all) (now (list .entry)) .1) ⌝ }
+{
+    join(&all[..n], list)
+}
+
+// The pieces of the first n ends go behind the first `at` numbers of the list. An order of the ends along the edge comes in here: the array is put in
+// that order before it is lent, and the two functions above stay as they are.
 pub fn join_at(all: [End; 258], n: usize, list: &mut [u32], at: usize) -> usize
     requires { ⌜ n ≤ 258 ⌝ }
     requires { ⌜ at + length (flat (pieces (take n all))) ≤ length (now list) ⌝ }

@@ -1,4 +1,5 @@
--- `line_pieces` meets its contract: after i crossings, the ends so far are gathered, but for those that count 0.
+-- `line_pieces` meets its contract: after i crossings, the ends so far are gathered, but for those that count 0. Where nothing
+-- counts nothing is joined.
 use mathlib.Core.Path.{_≡_, sym, _∙_}
 use mathlib.Core.Logic.{⊎-elim}
 use Prim.Native.Nat.{_-_, _≤_, _<_}
@@ -7,8 +8,9 @@ use native.Mathlib.Nat.{le-antisymm}
 use borrow.Author.Needs.{needs}
 use lib.ListN.{take}
 use Rattle.results.specs.Pieces.{pieces}
+use Rattle.joining.proofs.Flat.{behind-none}
 use Rattle.building.specs.Table.{table, line-pieces}
-use Rattle.building.proofs.Gather.{Gathered, gathered-none, gathered-one, gathered-skip, gathered-all}
+use Rattle.building.proofs.Gather.{Gathered, gathered-none, gathered-one, gathered-skip, gathered-all, gathered-quiet}
 use Rattle.building.proofs.lines.line_pieces.Statement.{statement}
 use Rattle.building.proofs.lines.line_pieces.Tie as tie
 
@@ -19,9 +21,12 @@ abbrev μ-loop : tie.MeasureT-loop
 μ-loop inc num list at from to first step many against all₀ n₀ i₀ all n i = many - i
 
 -- all ends are gathered
+crossed : (d : tie.After-loop Inv-loop μ-loop) → d .before .loop .i ≡ d .before .before .before .before .before .before .args .l .many
+crossed d = le-antisymm (d .before .loop .inv .0) (d .loop-test .left)
+
 whole : (d : tie.After-loop Inv-loop μ-loop) → let a = d .before .before .before .before .before .before .args in
     pieces (take (d .before .loop .n) (d .before .loop .all)) ≡ line-pieces (table (a .inc .now) (a .num .now)) (a .l)
-whole d = gathered-all (d .before .loop .inv .1) (le-antisymm (d .before .loop .inv .0) (d .loop-test .left))
+whole d = gathered-all (d .before .loop .inv .1) (crossed d)
 
 end-at-requires : tie.Need-end-at-requires Inv-loop μ-loop
 end-at-requires c κs = let s = c .before .before in (s .pre .0 .0, s .pre .0 .1 .from)
@@ -77,17 +82,32 @@ loop-again c =
           (λ w. rw (w .1, w .2) (gathered-skip (l .loop .inv .1) (e .result) (e .ensures) few (sym (c .before .counts .ensures) ∙ w .0 .left))) (c .if1 .came),
     )
 
+array-copy-out-quiet : tie.Need-array-copy-out-quiet Inv-loop μ-loop
+array-copy-out-quiet c = search needs
+
+array-copy-out-quiet-2 : tie.Need-array-copy-out-quiet-2 Inv-loop μ-loop
+array-copy-out-quiet-2 c = search needs
+
+quiet-requires : tie.Need-quiet-requires Inv-loop μ-loop
+quiet-requires c κs = search needs
+
+returns : tie.Need-returns Inv-loop μ-loop
+returns c =
+    let d = c .before .before .before .before in
+    let a = d .before .before .before .before .before .before .args in
+    rw (gathered-quiet _ (d .before .loop .inv .1) (crossed d) (sym (c .before .quiet .ensures) ∙ c .if2 .taken)) (behind-none (a .list .now) (a .at))
+
 join-at-requires : tie.Need-join-at-requires Inv-loop μ-loop
 join-at-requires c κs =
-    let d = c .before in
+    let d = c .before .before .before .before .before in
     let s = d .before .before .before .before .before .before in
     (omega (arith, d .before .loop .inv .1 .few, s .pre .0 .1 .few, d .before .loop .inv .0), rw (whole d) (s .pre .1))
 
 same-length : tie.Need-same-length Inv-loop μ-loop
 same-length c = c .before .before .join-at .kept .1 .1 .0
 
-returns : tie.Need-returns Inv-loop μ-loop
-returns c = let j = c .before .before in rw (whole (j .before .before)) at (j .join-at .ensures)
+returns-2 : tie.Need-returns-2 Inv-loop μ-loop
+returns-2 c = let j = c .before .before in rw (whole (j .before .before .before .before .before .before)) at (j .join-at .ensures)
 
 pub line-pieces-spec : {M : Type 1} → statement M
 line-pieces-spec =
@@ -110,6 +130,10 @@ line-pieces-spec =
     add-i
     loop-less
     loop-again
+    array-copy-out-quiet
+    array-copy-out-quiet-2
+    quiet-requires
+    returns
     join-at-requires
     same-length
-    returns)
+    returns-2)
