@@ -91,7 +91,7 @@ fn refusal(v: Point, points: &[f64], corners: &[u32]) -> u32
 }
 
 // "X(vA,B)" or "X(A,vB)".
-fn contained(as_b: bool, v: Point, points: &[f64], corners: &[u32]) -> i32
+pub fn contained(as_b: bool, v: Point, points: &[f64], corners: &[u32]) -> i32
     requires { ⌜ Ta.Named (now points) (now corners) × (length (now corners) ≤ 768) ⌝ }
     ensures { λ r. ⌜ r ≡ Ta.contained «as_b» v (So.solid (now (points .entry)) (now (corners .entry))) ⌝ }
     ensures small { λ r. ⌜ natAbs r ≤ 256 ⌝ }

@@ -65,7 +65,7 @@ length-rows n (suc p) =
     ap length (flat-upTo-suc (row n) p) ∙ length-append (flatMap (row n) (upTo p)) (row n p)
     ∙ ap₂ _+_ (length-rows n p) (length-map {B = Half} (upTo n) (λ s. (p, s)) ∙ length-upTo n) ∙ omega arith
 
-keep-le : {A : Type 0} (f : A → Bool) (l : List A) → length (keep f l) ≤ length l
+pub keep-le : {A : Type 0} (f : A → Bool) (l : List A) → length (keep f l) ≤ length l
 unfolding keep
 keep-le f [] = omega arith
 keep-le f (x ∷ l) = go (f x) (keep-le f l)
@@ -185,3 +185,6 @@ edges-none corners n = refl
 pub edges-own : (s : Solid) → edges s ≡ edges-of (s .corners) (vertices s)
 unfolding edges edges-of half-edges
 edges-own s = refl
+
+pub listed-own : (s : Solid) {ends numbers : List ℕ} {k : ℕ} → Listed (edges-of (s .corners) (vertices s)) ends numbers k → Listed (edges s) ends numbers k
+listed-own s {ends} {numbers} {k} l = subst (λ es. Listed es ends numbers k) (sym (edges-own s)) l

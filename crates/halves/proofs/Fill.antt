@@ -1,6 +1,6 @@
 -- Half-edges stored one behind the other, three numbers each; for a passed solid whose edges' numbers stand in the table they are its list of
 -- half-edges, and for two solids in turn the list of both.
-use mathlib.Core.Path.{_≡_, refl, sym, ap, _∙_, subst}
+use mathlib.Core.Path.{_≡_, refl, sym, ap, _∙_}
 use mathlib.Core.Bool.{not}
 use mathlib.Core.List.{List, [], _∷_, _++_, flatMap, List·Memᴰ}
 use Prim.Native.Nat.{ℕ, suc, _+_, _*_, _≤_, _<_}
@@ -19,7 +19,7 @@ use Rattle.solids.proofs.Closure as Cl
 use Rattle.solids.proofs.Admitted.{Passed, Between}
 use Rattle.solids.proofs.Shut.{mem-edges, between}
 use Rattle.edges.specs.Words.{Listed, edges-of}
-use Rattle.edges.proofs.Edges.{edges-own}
+use Rattle.edges.proofs.Edges.{listed-own}
 use Rattle.laying.proofs.Lists.{sets-append}
 use Rattle.tables.specs.Filled.{edge-number, half-numbers, half-list, halves}
 use Rattle.tables.proofs.Halves.{length-half-list, length-halves}
@@ -83,7 +83,7 @@ Numbered s numbers = (e : Half) → List·Memᴰ e (edges s) → getD numbers (p
 module _ (s : Solid) where
   -- so it is where the edges have been listed
   pub numbered : {ends numbers : List ℕ} {k : ℕ} → Listed (edges-of (s .corners) (vertices s)) ends numbers k → Numbered s numbers
-  numbered {ends} {numbers} {k} l = subst (λ es. Listed es ends numbers k) (sym (edges-own s)) l .at
+  numbered l = listed-own s l .at
 
   pub passed-low : Passed s → Low (s .corners)
   passed-low p = Cl.low s (p .corners-whole) (p .few-vertices) (p .proper)

@@ -10,6 +10,7 @@ pub enum Record {
 }
 
 // The answer of a reading, 0 or a refusal's number; how many vertices and facets were read, and how many bytes that took.
+#[repr(C)]
 pub struct Read {
     pub answer: u32,
     pub vertices: usize,
@@ -18,6 +19,7 @@ pub struct Read {
 }
 
 // The answer of a writing, 0 or a refusal's number, and how many bytes were written.
+#[repr(C)]
 pub struct Written {
     pub answer: u32,
     pub used: usize,

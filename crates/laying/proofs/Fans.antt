@@ -70,10 +70,10 @@ module _ (o a p q : ℕ) where
   fan-apart n m = rw (ne-eqb _ _ n, ne-eqb _ _ m)
 
 -- ---- one behind the other
-three-each : (ts : List Triangle) → length (flatMap corners-of ts) ≡ 3 * length ts
+pub three-each : (ts : List Triangle) → length (flatMap corners-of ts) ≡ 3 * length ts
 three-each ts = length-threes (λ (t : Triangle). t .a) (λ (t : Triangle). t .p) (λ (t : Triangle). t .q) ts
 
-one-each : (ts : List Triangle) → length (origins-of ts) ≡ length ts
+pub one-each : (ts : List Triangle) → length (origins-of ts) ≡ length ts
 one-each ts = length-map ts (λ (t : Triangle). t .origin)
 
 pub laid-none : (cs os : List ℕ) (k : ℕ) → Laid [] cs os k cs os k
@@ -113,7 +113,3 @@ module _ {ts : List Triangle} {cs₀ os₀ cs os : List ℕ} {k : ℕ} where
         a .corners ∙ sets-eq (flatMap corners-of ts) cs₀ 0 (omega arith) ∙ rw (zero-add (length (flatMap corners-of ts))),
         a .origins ∙ sets-eq (origins-of ts) os₀ 0 (omega arith) ∙ rw (zero-add (length (origins-of ts))),
       )
-
-  -- how many there are
-  pub laid-count : Laid ts cs₀ os₀ 0 cs os k → (k ≡ length ts) × (3 * k ≡ length (flatMap corners-of ts)) × (k ≡ length (origins-of ts))
-  laid-count a = (omega (arith, a .count), omega (arith, a .count, three-each ts), omega (arith, a .count, one-each ts))

@@ -16,20 +16,23 @@ module _ (a b : Solid) (l : Lent) where
   unfolding operation
   first-7 n = refl
 
-  module _ (op : Operation) (code : ℕ) (known : chosen code ≡ Known op) where
-    pub then-A : (n : ℕ) → admission a ≡ refused n → operation code a b l ≡ refusal n l
-    unfolding operation operate in-order
-    then-A n e = rw (known, e)
+  module _ (op : Operation) where
+    pub by-code : (code : ℕ) → chosen code ≡ Known op → operation code a b l ≡ operate op a b l
+    unfolding operation
+    by-code code known = rw known
 
-    pub then-B : (n : ℕ) → admission a ≡ accepted → admission b ≡ refused n → operation code a b l ≡ refusal n l
-    unfolding operation operate in-order
-    then-B n d e = rw (known, d, e)
+    pub then-A : (n : ℕ) → admission a ≡ refused n → operate op a b l ≡ refusal n l
+    unfolding operate in-order
+    then-A n e = rw e
 
-    pub last-8 : admission a ≡ accepted → admission b ≡ accepted → too-short l (result op a b) ≡ true → operation code a b l ≡ refusal 8 l
-    unfolding operation operate in-order
-    last-8 d e h = rw (known, d, e, h)
+    pub then-B : (n : ℕ) → admission a ≡ accepted → admission b ≡ refused n → operate op a b l ≡ refusal n l
+    unfolding operate in-order
+    then-B n d e = rw (d, e)
 
-    pub else-done :
-        admission a ≡ accepted → admission b ≡ accepted → too-short l (result op a b) ≡ false → operation code a b l ≡ success (result op a b) l
-    unfolding operation operate in-order
-    else-done d e h = rw (known, d, e, h)
+    pub last-8 : admission a ≡ accepted → admission b ≡ accepted → too-short l (result op a b) ≡ true → operate op a b l ≡ refusal 8 l
+    unfolding operate in-order
+    last-8 d e h = rw (d, e, h)
+
+    pub else-done : admission a ≡ accepted → admission b ≡ accepted → too-short l (result op a b) ≡ false → operate op a b l ≡ success (result op a b) l
+    unfolding operate in-order
+    else-done d e h = rw (d, e, h)

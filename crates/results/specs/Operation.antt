@@ -9,6 +9,7 @@ use Rattle.sums.specs.Lists.{onto}
 use Rattle.solids.specs.Refusals.{Verdict, accepted, refused, given, in-order}
 use Rattle.solids.specs.Solids.{Solid}
 use Rattle.solids.specs.Admission.{admission}
+use Rattle.results.specs.declared.Made.{Made}
 use Rattle.results.specs.declared.Operation.{Operation}
 use Rattle.results.specs.declared.Chosen.{Chosen}
 use Rattle.results.specs.declared.Chosen.the-variants.{Known, Unknown}
@@ -21,6 +22,9 @@ pub record Lent : Type 0 where
   pub corners : List ℕ
   pub origins : List ℕ
 
+abbrev pub lists : List Float → List ℕ → List ℕ → Lent
+lists ps cs os = record { points = ps; corners = cs; origins = os }
+
 -- 8: "a lent list is too short for the answer"
 unfoldable pub too-short : Lent → Result → Bool
 too-short l r =
@@ -32,6 +36,10 @@ pub record Outcome : Type 0 where
   pub vertices : ℕ
   pub triangles : ℕ
   pub lent : Lent
+
+-- what a call answered, with the lent lists as they then are
+abbrev pub called : Made → Lent → Outcome
+called m l = record { answer = m .answer; vertices = m .vertices; triangles = m .triangles; lent = l }
 
 -- "Every refusal returns its number with all counts zero and changes no lent list."
 abbrev pub refusal : ℕ → Lent → Outcome

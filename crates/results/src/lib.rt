@@ -1,4 +1,4 @@
-// The operation's type with its three fixed numbers, and the record that a composite edge is joined from.
+// The operation's type with its three fixed numbers, the record that a composite edge is joined from, and what an operation answers.
 ghost use mathlib.Core.Path.{_≡_};
 ghost use Rattle.results.specs.Inclusion as I;
 
@@ -18,6 +18,14 @@ pub enum Chosen {
 pub struct End {
     pub vertex: u32,
     pub count: i32,
+}
+
+// The answer of an operation, 0 or a refusal's number; how many vertices and triangles its result has.
+#[repr(C)]
+pub struct Made {
+    pub answer: u32,
+    pub vertices: usize,
+    pub triangles: usize,
 }
 
 // The three fixed numbers of an operation.

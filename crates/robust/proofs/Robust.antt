@@ -1,6 +1,6 @@
 -- DEMAND 3: of the result of any operation on any two admitted solids. The parts are proved over the definitions, in the crates that have them; here
 -- they are carried to the result's lists and collected.
-use mathlib.Core.Path.{_≡_, refl, sym, ap, subst}
+use mathlib.Core.Path.{_≡_, refl, sym, ap, subst, _∙_}
 use mathlib.Core.List.{List, _∷_, [], flatMap}
 use Prim.Native.Nat.{ℕ, _≤_, _<_, _/_, _%_}
 use lib.ListN.{length}
@@ -20,7 +20,7 @@ use Rattle.results.specs.declared.Chosen.the-variants.{Known}
 use Rattle.results.specs.Inclusion.{Key, chosen, inclusion, place}
 use Rattle.results.specs.Vertices.{keys, kept, number}
 use Rattle.results.specs.Triangles.{Triangle, triangles, listed, result}
-use Rattle.results.proofs.Refusals.{else-done}
+use Rattle.results.proofs.Refusals.{by-code, else-done}
 use Rattle.results.proofs.Adding.{Shut, inclusion-adds}
 use Rattle.results.proofs.Closed.{triangles-closed}
 use Rattle.results.proofs.Corners.{vertex-count, triangles-proper}
@@ -93,7 +93,7 @@ robust code op known a b ok-a ok-b =
     let pa = passed a ok-a in
     let pb = passed b ok-b in
     record {
-      given = λ l room. else-done a b l op code known ok-a ok-b room;
+      given = λ l room. by-code a b l op code known ∙ else-done a b l op ok-a ok-b room;
       closed = closed op a b pa pb;
       corners =
           λ t i. let h = proper op a b pa pb t i in

@@ -31,7 +31,7 @@ use Rattle.tables.proofs.Halves.{reads-A, reads-B, length-halves, known
 use Rattle.tables.proofs.Same.{same-triangles}
 
 -- ---- sizes of inclusions
-scaled : (n : ℕ) (c x : ℤ) → Bnd 1 c → Bnd n x → Bnd n (c *ℤ x)
+pub scaled : (n : ℕ) (c x : ℤ) → Bnd 1 c → Bnd n x → Bnd n (c *ℤ x)
 unfolding one
 scaled n (pos zero) x h k = rw (zero-*ℤ x) (omega arith)
 scaled n (pos (suc zero)) x h k = rw (*ℤ-comm (pos 1) x ∙ *ℤ-one x) k
@@ -39,10 +39,10 @@ scaled n (pos (suc (suc m))) x h k = absurd (omega arith)
 scaled n (negsuc zero) x h k = rw (neg-mul (pos 1) x ∙ ap negℤ (*ℤ-comm (pos 1) x ∙ *ℤ-one x)) (bnd-neg n x k)
 scaled n (negsuc (suc m)) x h k = absurd (omega arith)
 
-shifted : (n : ℕ) (c i x : ℤ) → Bnd 1 c → Bnd 1 i → Bnd n x → Bnd (1 + n) (c +ℤ i *ℤ x)
+pub shifted : (n : ℕ) (c i x : ℤ) → Bnd 1 c → Bnd 1 i → Bnd n x → Bnd (1 + n) (c +ℤ i *ℤ x)
 shifted n c i x h k l = bnd-add 1 n c (i *ℤ x) h (scaled n i x k l)
 
-small-numbers : (op : Operation) → Bnd 1 (cA op) × Bnd 1 (cB op) × Bnd 1 (cI op)
+pub small-numbers : (op : Operation) → Bnd 1 (cA op) × Bnd 1 (cB op) × Bnd 1 (cI op)
 small-numbers Union = (omega arith, omega arith, omega arith)
 small-numbers Intersection = (omega arith, omega arith, omega arith)
 small-numbers Difference = (omega arith, omega arith, omega arith)
@@ -60,6 +60,18 @@ size-in-A a v =
     (bnd-neg (length (upTo (facets a)) * 1) (sumOf (λ f. S Z (fv (facet a f) v)) (upTo (facets a)))
     (bnd-sum 1 (λ f. S Z (fv (facet a f) v)) (upTo (facets a)) (all-of (λ f. Bnd 1 (S Z (fv (facet a f) v))) (upTo (facets a)) (λ f m. S-size Z 1 (fv (facet a f) v) (small-fv (facet a f) v)))))
 
+-- ---- sizes of solids
+pub sized : (a b : Solid) → Passed a → Passed b → T.Sized (sizes a b)
+sized a b passed-a passed-b =
+    record {
+      va = passed-a .few-vertices;
+      ea = omega (arith, edges-room a passed-a, passed-a .few-facets);
+      fa = passed-a .few-facets;
+      vb = passed-b .few-vertices;
+      eb = omega (arith, edges-room b passed-b, passed-b .few-facets);
+      fb = passed-b .few-facets;
+    }
+
 module _ (op : Operation) (a b : Solid) where
   size-eAfB : (e : Half) (g : ℕ) → Bnd 2 (inclusion op a b (eAfB e g))
   unfolding inclusion edge-facet
@@ -70,11 +82,11 @@ module _ (op : Operation) (a b : Solid) where
   size-fAeB f e = scaled 2 (cI op) _ (small-numbers op .2) (two-fe (facet a f) (edge b e))
 
   -- a table of inclusions by the key at each slot
-  slot : (i : ℕ) → i < length (keys a b) → getD (inclusions op a b) i (pos 0) ≡ inclusion op a b (getD (keys a b) i no-key)
+  pub slot : (i : ℕ) → i < length (keys a b) → getD (inclusions op a b) i (pos 0) ≡ inclusion op a b (getD (keys a b) i no-key)
   unfolding inclusions
   slot i h = at-map (inclusion op a b) (keys a b) i (pos 0) no-key h
 
-  long-inclusions : length (inclusions op a b) ≡ T.total (sizes a b)
+  pub long-inclusions : length (inclusions op a b) ≡ T.total (sizes a b)
   unfolding inclusions
   long-inclusions = length-map (keys a b) (inclusion op a b) ∙ length-keys a b
 
@@ -83,7 +95,7 @@ module _ (op : Operation) (a b : Solid) where
   long-numbers = length-map (keys a b) (number (inclusion op a b) (keys a b)) ∙ length-keys a b
 
   module _ (passed-a : Passed a) (passed-b : Passed b) where
-    size-any : (k : Key) → Bnd 257 (inclusion op a b k)
+    pub size-any : (k : Key) → Bnd 257 (inclusion op a b k)
     unfolding inclusion
     size-any (vA i) = let s = shifted (facets b) (cA op) (cI op) (in-B (vertex a i) b) (small-numbers op .0) (small-numbers op .2) (size-in-B (vertex a i) b) in omega (arith, s, passed-b .few-facets)
     size-any (eAfB e g) = let s = size-eAfB e g in omega (arith, s)
@@ -103,22 +115,11 @@ module _ (op : Operation) (a b : Solid) where
         (subst (λ n. Bnd 2 (inclusion op a b (getD (keys a b) n no-key))) (sym e)
         (at-crossing a b (λ k. Bnd 2 (inclusion op a b k)) size-eAfB size-fAeB (i - vertices a) (omega arith)))
 
-    -- ---- sizes of solids, and half-edges
-    sized : T.Sized (sizes a b)
-    sized =
-        record {
-          va = passed-a .few-vertices;
-          ea = omega (arith, edges-room a passed-a, passed-a .few-facets);
-          fa = passed-a .few-facets;
-          vb = passed-b .few-vertices;
-          eb = omega (arith, edges-room b passed-b, passed-b .few-facets);
-          fb = passed-b .few-facets;
-        }
-
+    -- ---- half-edges
     half-edges-good : T.Halves (halves a b) (sizes a b)
     half-edges-good =
         record {
-          sized = sized;
+          sized = sized a b passed-a passed-b;
           long = length-halves a b;
           edge-A = λ h l. rw (reads-A a b h l .edge) (known a passed-a h l .number);
           start-A = λ h l. rw (reads-A a b h l .start) (known a passed-a h l .start);

@@ -10,10 +10,10 @@ use Rattle.solids.proofs.Admitted.{Passed}
 use Rattle.results.specs.declared.Operation.{Operation}
 use Rattle.results.specs.Inclusion.{inclusion, place}
 use Rattle.results.specs.Vertices.{keys, kept, number}
-use Rattle.results.specs.Triangles.{triangles, listed, result}
+use Rattle.results.specs.Triangles.{Triangle, triangles, listed, result}
 use Rattle.laying.specs.Rank.{rank}
 use Rattle.laying.specs.Laid.{Laid}
-use Rattle.laying.proofs.Fans.{laid-count, laid-onto}
+use Rattle.laying.proofs.Fans.{three-each, one-each, laid-onto}
 use Rattle.building.specs.Table as T
 use Rattle.tables.specs.Filled.{sizes, inclusions, filled, halves}
 use Rattle.tables.proofs.Numbers.{ranks-count}
@@ -27,16 +27,19 @@ module _ (op : Operation) (a b : Solid) where
       let ks = kept (inclusion op a b) (keys a b) in
       ap (λ n. 3 * n) (e ∙ ranks-count op a b) ∙ sym (length-threes (λ k. place a b k .x) (λ k. place a b k .y) (λ k. place a b k .z) ks)
 
-  module _ (passed-a : Passed a) (passed-b : Passed b) {cs₀ os₀ cs os : List ℕ} {n : ℕ} (laid : Laid (T.triangles (filled op a b) (halves a b) (sizes a b)) cs₀ os₀ 0 cs os n) where
-    as-defined : Laid (triangles (inclusion op a b) (number (inclusion op a b) (keys a b)) a b) cs₀ os₀ 0 cs os n
-    as-defined = subst (λ ts. Laid ts cs₀ os₀ 0 cs os n) (read-triangles op a b passed-a passed-b) laid
+  module _ (passed-a : Passed a) (passed-b : Passed b) where
+    abbrev own : List Triangle
+    own = triangles (inclusion op a b) (number (inclusion op a b) (keys a b)) a b
 
-    -- measured: how many there are, whatever room there was
-    pub counted : (3 * n ≡ length (result op a b .corners)) × (n ≡ length (result op a b .origins))
+    -- measured: how many there are
+    pub counted : {n : ℕ} → n ≡ length (T.triangles (filled op a b) (halves a b) (sizes a b)) → (3 * n ≡ length (result op a b .corners)) × (n ≡ length (result op a b .origins))
     unfolding result listed
-    counted = let c = laid-count as-defined in (c .1, c .2)
+    counted e =
+        let f = e ∙ ap length (read-triangles op a b passed-a passed-b) in
+        (ap (λ n. 3 * n) f ∙ sym (three-each own), f ∙ sym (one-each own))
 
     -- made: where there is room
-    pub made : 3 * n ≤ length cs₀ → n ≤ length os₀ → (cs ≡ onto (result op a b .corners) cs₀) × (os ≡ onto (result op a b .origins) os₀)
+    pub made : {cs₀ os₀ cs os : List ℕ} {n : ℕ} → Laid (T.triangles (filled op a b) (halves a b) (sizes a b)) cs₀ os₀ 0 cs os n → 3 * n ≤ length cs₀ → n ≤ length os₀
+        → (cs ≡ onto (result op a b .corners) cs₀) × (os ≡ onto (result op a b .origins) os₀)
     unfolding result listed
-    made h k = laid-onto as-defined h k
+    made {cs₀} {os₀} {cs} {os} {n} laid h k = laid-onto (subst (λ ts. Laid ts cs₀ os₀ 0 cs os n) (read-triangles op a b passed-a passed-b) laid) h k

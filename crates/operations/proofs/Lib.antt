@@ -1,0 +1,3 @@
+pub mod Prepared
+pub mod Results
+pub mod Refused

@@ -1,0 +1,90 @@
+// Two solids made ready for the operation: their edges, their half-edges and their sizes.
+use building::Sizes;
+ghost use mathlib.Core.Path.{_≡_};
+ghost use Prim.Native.Nat.{_+_, _*_, _≤_};
+ghost use lib.ListN.{length, take};
+ghost use lib.Seq.{sets};
+ghost use Rattle.solids.specs.Solids as So;
+ghost use Rattle.solids.specs.Admission as Ad;
+ghost use Rattle.solids.specs.Refusals as Re;
+ghost use Rattle.building.specs.Table as Ta;
+ghost use Rattle.tables.specs.Filled as Fi;
+ghost use Rattle.slots.specs.Words as Wo;
+
+// One solid made ready: its edges listed, and its half-edges put behind the first `at` numbers of the list of both. Answers how many edges it has.
+fn ready(
+    points: &[f64],
+    corners: &[u32],
+    ends: &mut [u32; 768],
+    halves: &mut [u32],
+    at: usize,
+) -> usize
+    requires { ⌜ Ad.admission (So.solid (now points) (now corners)) ≡ Re.accepted ⌝ }
+    requires { ⌜ length (now ends) ≡ 768 ⌝ }
+    requires { ⌜ at + 9 * So.facets (So.solid (now points) (now corners)) ≤ length (now halves) ⌝ }
+    ensures ready { λ r. ⌜ Wo.Ready (now (points .entry)) (now (corners .entry)) (now (ends .exit)) ⌝ }
+    ensures halves { λ r. ⌜ now (halves .exit) ≡ sets (now (halves .entry)) at (Fi.half-list (So.solid (now (points .entry)) (now (corners .entry)))) ⌝ }
+    ensures count { λ r. ⌜ r ≡ length (So.edges (So.solid (now (points .entry)) (now (corners .entry)))) ⌝ }
+{
+    let mut counts = [0u16; 16384];
+    let mut numbers = [0u16; 16384];
+    checks::table::tally(&mut counts, corners);
+    let many = edges::list_edges(
+        &counts,
+        corners,
+        (points.len() / 3) as u32,
+        ends,
+        &mut numbers,
+    );
+    halves::put_halves(corners, &numbers, halves, at);
+    many
+}
+
+// How many vertices, edges and facets two solids have, their edges being counted already.
+fn sizes(ap: &[f64], ac: &[u32], ea: usize, bp: &[f64], bc: &[u32], eb: usize) -> Sizes
+    requires { ⌜ ea ≡ length (So.edges (So.solid (now ap) (now ac))) ⌝ }
+    requires { ⌜ eb ≡ length (So.edges (So.solid (now bp) (now bc))) ⌝ }
+    ensures { λ r. ⌜ r ≡ Fi.sizes (So.solid (now (ap .entry)) (now (ac .entry))) (So.solid (now (bp .entry)) (now (bc .entry))) ⌝ }
+{
+    Sizes {
+        va: ap.len() / 3,
+        ea,
+        fa: ac.len() / 3,
+        vb: bp.len() / 3,
+        eb,
+        fb: bc.len() / 3,
+    }
+}
+
+// Both solids made ready: the front of `halves` is the list of both.
+pub fn both(
+    ap: &[f64],
+    ac: &[u32],
+    ae: &mut [u32; 768],
+    bp: &[f64],
+    bc: &[u32],
+    be: &mut [u32; 768],
+    halves: &mut [u32],
+) -> Sizes
+    requires { ⌜ (Ad.admission (So.solid (now ap) (now ac)) ≡ Re.accepted) × (Ad.admission (So.solid (now bp) (now bc)) ≡ Re.accepted) ⌝ }
+    requires { ⌜ (length (now ae) ≡ 768) × (length (now be) ≡ 768) × (4608 ≤ length (now halves)) ⌝ }
+    ensures ready_a { λ r. ⌜ Wo.Ready (now (ap .entry)) (now (ac .entry)) (now (ae .exit)) ⌝ }
+    ensures ready_b { λ r. ⌜ Wo.Ready (now (bp .entry)) (now (bc .entry)) (now (be .exit)) ⌝ }
+    ensures sizes { λ r. ⌜ r ≡ Fi.sizes (So.solid (now (ap .entry)) (now (ac .entry))) (So.solid (now (bp .entry)) (now (bc .entry))) ⌝ }
+    ensures front { λ r. ⌜ take (9 * (r .fa + r .fb)) (now (halves .exit)) ≡ Fi.halves (So.solid (now (ap .entry)) (now (ac .entry))) (So.solid (now (bp .entry)) (now (bc .entry))) ⌝ }
+{
+    let ea = ready(ap, ac, ae, halves, 0);
+    let eb = ready(bp, bc, be, halves, 9 * (ac.len() / 3));
+    sizes(ap, ac, ea, bp, bc, eb)
+}
+
+// How many slots the table has.
+pub fn slots(z: Sizes) -> usize
+    requires { ⌜ Ta.Sized z ⌝ }
+    ensures { λ r. ⌜ r ≡ Ta.total z ⌝ }
+    ensures few { λ r. ⌜ r ≤ 196864 ⌝ }
+{
+    let on_edges = z.ea * z.fb;
+    let on_facets = z.fa * z.eb;
+    z.va + on_edges + on_facets + z.vb
+}
