@@ -1,15 +1,26 @@
-// The calls that answer the requests, one small function each: it makes the call and prints the answer. A call that is not there yet is answered with a question mark.
+// The calls that answer the requests, one small function each: it makes the call and prints the answer.
 use caselang::fronts;
 use caselang::output;
 use caselang::output::Lines;
 use points::Point;
+use results::Made;
 use solids::Counted;
 ghost use Prim.Native.Nat.{_≤_};
 
-// The answer to a request that cannot be read, or whose call is not there.
+// The answer to a request that cannot be read.
 pub fn unknown(out: &mut Lines) {
     let at = output::text(out, 0, b"?\n");
     output::stop(out, at);
+}
+
+// The first line of an operation's answer.
+fn line_of_made(out: &mut Lines, made: Made) -> usize
+    ensures { λ r. ⌜ r ≤ 65536 ⌝ }
+{
+    let answer = output::number(out, 0, made.answer as u64);
+    let vertices = output::spaced(out, answer, made.vertices as u64);
+    let triangles = output::spaced(out, vertices, made.triangles as u64);
+    output::text(out, triangles, b"\n")
 }
 
 pub fn op(
@@ -23,7 +34,11 @@ pub fn op(
     corners: &mut [u32],
     origins: &mut [u32],
 ) {
-    unknown(out);
+    let made = operations::operate(code, ap, ac, bp, bc, coordinates, corners, origins);
+    let line = line_of_made(out, made);
+    let at = output::vertices(out, line, coordinates, made.vertices);
+    let end = output::triangles(out, at, corners, origins, made.triangles);
+    output::stop(out, end);
 }
 
 fn counted(as_b: bool, v: Point, points: &[f64], corners: &[u32]) -> Counted {
@@ -93,5 +108,9 @@ pub fn write(out: &mut Lines, points: &[f64], corners: &[u32], bytes: &mut [u8])
 }
 
 pub fn solid(out: &mut Lines, bytes: &[u8]) {
-    unknown(out);
+    let line = programs::printed(bytes);
+    let text = line.bytes;
+    let length = line.length;
+    let at = output::text(out, 0, &text[..length]);
+    output::stop(out, at);
 }

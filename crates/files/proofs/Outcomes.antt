@@ -16,7 +16,7 @@ use Rattle.sums.proofs.Sums.{All}
 use Rattle.sums.proofs.Tests.{never, or-false}
 use Rattle.solids.specs.Refusals.{Verdict, accepted, refused, answer, in-order}
 use Rattle.solids.specs.Solids.{Solid, solid, vertices, facets, vertex, corner}
-use Rattle.solids.specs.Admission.{too-many, check-sizes, admission}
+use Rattle.solids.specs.Admission.{uneven, too-many, check-sizes, admission}
 use Rattle.solids.proofs.Orders.{all-accepted, not-given}
 use Rattle.files.specs.declared.Walk.{Walk}
 use Rattle.housefile.specs.declared.Record.{Record}
@@ -43,26 +43,34 @@ early (refused n ∷ vs) ws d = refl
 there : {A : Type 0} (n : ℕ) (l : List A) → length (take n l) ≡ n → n ≤ length l
 there n l e = omega (arith, e, length-take n l)
 
+-- ---- what a walk found, by its numbers
+module _ (w : Walk) (kept-points : List Float) (kept-corners : List ℕ) (used : ℕ) (xs : List Float) (ds : List ℕ) (f : Found w used xs ds kept-points kept-corners) where
+  pub even-found : uneven (solid xs ds) ≡ false
+  even-found = even (solid xs ds) (omega (arith, f .points-long)) (omega (arith, f .corners-long))
+
+  pub too-many-found : too-many (solid xs ds) ≡ many w
+  unfolding too-many
+  too-many-found = let v : vertices (solid xs ds) ≡ w .vertices = omega (arith, f .points-long) in let n : facets (solid xs ds) ≡ w .facets = omega (arith, f .corners-long) in rw (v, n)
+
+  pub points-front : w .vertices ≤ 128 → take (3 * w .vertices) kept-points ≡ xs
+  points-front h = subst (λ n. take n kept-points ≡ xs) (f .points-long) (f .points-held (omega (arith, f .points-long)))
+
+  pub corners-front : w .facets ≤ 256 → take (3 * w .facets) kept-corners ≡ ds
+  corners-front h = subst (λ n. take n kept-corners ≡ ds) (f .corners-long) (f .corners-held (omega (arith, f .corners-long)))
+
+pub few : (w : Walk) → many w ≡ false → (w .vertices ≤ 128) × (w .facets ≤ 256)
+few w e = let (no-v, no-f) = or-false (ltb 128 (w .vertices)) (ltb 256 (w .facets)) e in (ltb-false _ _ no-v, ltb-false _ _ no-f)
+
 -- ---- the reader, by the numbers that a walk found
 module _ (w : Walk) (kept-points : List Float) (kept-corners : List ℕ) (ps : List Float) (cs : List ℕ) where
   module _ (used : ℕ) (xs : List Float) (ds : List ℕ) (f : Found w used xs ds kept-points kept-corners) where
-    found-vertices : vertices (solid xs ds) ≡ w .vertices
-    found-vertices = omega (arith, f .points-long)
-
-    found-facets : facets (solid xs ds) ≡ w .facets
-    found-facets = omega (arith, f .corners-long)
-
-    too-many-found : too-many (solid xs ds) ≡ many w
-    unfolding too-many
-    too-many-found = ap₂ (λ n m. ltb 128 n || ltb 256 m) found-vertices found-facets
-
     too-short-found : too-short ps cs (solid xs ds) ≡ short w (length ps) (length cs)
     unfolding too-short
     too-short-found = ap₂ (λ n m. ltb (length ps) n || ltb (length cs) m) (f .points-long) (f .corners-long)
 
     checks-found : read-solid (solid xs ds) ps cs ≡ in-order (by-numbers w (length ps) (length cs) ++ later-checks (solid xs ds))
     unfolding read-solid check-sizes in-order
-    checks-found = rw (f .sound, too-many-found, too-short-found)
+    checks-found = rw (f .sound, too-many-found w kept-points kept-corners used xs ds f, too-short-found)
 
   pub refused-by-numbers : (l : Layout) → Scanned l w kept-points kept-corners → (refusal w (length ps) (length cs) ≡ 0 → ⊥)
       → unread (refusal w (length ps) (length cs)) ps cs ≡ by-layout l ps cs
@@ -93,16 +101,14 @@ module _ (w : Walk) (kept-points : List Float) (kept-corners : List ℕ) (ps : L
   past (laid used xs ds) f z =
       let s : Solid = solid xs ds in
       let (n9, n2, n8) = passes z in
-      let (no-v, no-f) = or-false (ltb 128 (w .vertices)) (ltb 256 (w .facets)) n2 in
+      let (few-v, few-f) = few w n2 in
       let (no-p, no-c) = or-false (ltb (length ps) (3 * w .vertices)) (ltb (length cs) (3 * w .facets)) n8 in
-      let few-v : w .vertices ≤ 128 = ltb-false _ _ no-v in
-      let few-f : w .facets ≤ 256 = ltb-false _ _ no-f in
       let long-p : length xs ≡ 3 * w .vertices = f .points-long in
       let long-c : length ds ≡ 3 * w .facets = f .corners-long in
-      let front-p : take (3 * w .vertices) kept-points ≡ xs = subst (λ n. take n kept-points ≡ xs) long-p (f .points-held (omega arith)) in
-      let front-c : take (3 * w .facets) kept-corners ≡ ds = subst (λ n. take n kept-corners ≡ ds) long-c (f .corners-held (omega arith)) in
+      let front-p : take (3 * w .vertices) kept-points ≡ xs = points-front w kept-points kept-corners used xs ds f few-v in
+      let front-c : take (3 * w .facets) kept-corners ≡ ds = corners-front w kept-points kept-corners used xs ds f few-f in
       let same : read-solid s ps cs ≡ admission s =
-      read-as-admission s ps cs (even s (omega arith) (omega arith)) (too-many-found used xs ds f ∙ n2) (too-short-found used xs ds f ∙ n8) in
+      read-as-admission s ps cs (even-found w kept-points kept-corners used xs ds f) (too-many-found w kept-points kept-corners used xs ds f ∙ n2) (too-short-found used xs ds f ∙ n8) in
       record {
         few-vertices = few-v;
         few-facets = few-f;

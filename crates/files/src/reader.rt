@@ -87,9 +87,10 @@ fn keep(found: Record, w: Walk, points: &mut [f64; 384], corners: &mut [u32; 768
 }
 
 // The whole layout: "each record begins where the one before it ended".
-fn scan(bytes: &[u8], points: &mut [f64; 384], corners: &mut [u32; 768]) -> Walk
+pub fn scan(bytes: &[u8], points: &mut [f64; 384], corners: &mut [u32; 768]) -> Walk
     requires { ⌜ (length (now points) ≡ 384) × (length (now corners) ≡ 768) ⌝ }
     ensures { λ r. ⌜ Wa.Scanned (Re.layout (now (bytes .entry))) r (now (points .exit)) (now (corners .exit)) ⌝ }
+    ensures { λ _. ⌜ (length (now (points .exit)) ≡ 384) × (length (now (corners .exit)) ≡ 768) ⌝ }
 {
     let mut w = Walk {
         going: true,
@@ -137,7 +138,7 @@ fn copy_points(from: &[f64], to: &mut [f64])
     }
 }
 
-fn copy_corners(from: &[u32], to: &mut [u32])
+pub fn copy_corners(from: &[u32], to: &mut [u32])
     requires { ⌜ length (now from) ≤ length (now to) ⌝ }
     ensures { λ _. ⌜ now (to .exit) ≡ onto (now (from .entry)) (now (to .entry)) ⌝ }
 {

@@ -24,7 +24,7 @@ returns c =
     let n = k .before in
     let a = n .before .before .before .before .before .before .args in
     rw (c .refused .ensures, k .refusal .ensures)
-    (refused-by-numbers (n .scan .result) (n .scan .last .1 .0) (n .scan .last .1 .1 .0) (a .points .now) (a .corners .now) (layout (a .bytes .now)) (n .scan .ensures)
+    (refused-by-numbers (n .scan .result) (n .scan .last .1 .0) (n .scan .last .1 .1 .0) (a .points .now) (a .corners .now) (layout (a .bytes .now)) (n .scan .ensures .0)
     (λ z. c .before .if1 .taken (k .refusal .ensures ∙ z)))
 
 -- past 9, 2 and 8
@@ -35,7 +35,7 @@ gone-past : (c : tie.Else1)
 gone-past c =
     let n = c .before .before in
     let a = n .before .before .before .before .before .before .args in
-    past (n .scan .result) (n .scan .last .1 .0) (n .scan .last .1 .1 .0) (a .points .now) (a .corners .now) (layout (a .bytes .now)) (n .scan .ensures)
+    past (n .scan .result) (n .scan .last .1 .0) (n .scan .last .1 .1 .0) (a .points .now) (a .corners .now) (layout (a .bytes .now)) (n .scan .ensures .0)
     (sym (c .before .refusal .ensures) ∙ c .if1 .left)
 
 mul-n : tie.Need-mul-n

@@ -59,7 +59,10 @@ loop-again : tie.Need-loop-again Inv-loop μ-loop
 loop-again c = let k = c .before .before .before .before in let l = k .before .before .before in rw (c .step .ensures, c .before .keep .ensures .0, c .before .keep .ensures .1) (walk-goes-on (l .before .before .args .bytes .now) (l .loop .w) (l .loop .points) (l .loop .corners) (l .loop .inv) (k .before .before .loop-test .taken) (k .decode .result) (begun k))
 
 returns : tie.Need-returns Inv-loop μ-loop
-returns c = let l = c .before in walk-ends (l .before .before .args .bytes .now) (l .loop .w) (l .loop .points) (l .loop .corners) (l .loop .inv) (c .loop-test .left)
+returns c =
+    let l = c .before in
+    let h = l .loop .inv in
+    (walk-ends (l .before .before .args .bytes .now) (l .loop .w) (l .loop .points) (l .loop .corners) h (c .loop-test .left), (h .points-room, h .corners-room))
 
 pub scan-spec : {M : Type 1} → statement M
 scan-spec =

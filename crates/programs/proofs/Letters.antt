@@ -1,0 +1,47 @@
+-- The letter, then the length: what an input comes to, by its first byte and the bytes behind it.
+use mathlib.Core.Path.{_≡_, refl}
+use mathlib.Core.List.{List, [], _∷_}
+use Prim.Native.Nat.{ℕ, zero, suc, _≤_, _<_}
+use native.Mathlib.Omega.{arith}
+use lib.ListN.{length, getD, drop}
+use borrow.Author.Tests.{lt-ltb, le-ltb}
+use Rattle.results.specs.declared.Operation.{Operation}
+use Rattle.results.specs.declared.Operation.the-variants.{Union, Intersection, Difference}
+use Rattle.results.specs.declared.Chosen.the-variants.{Known, Unknown}
+use Rattle.results.specs.Inclusion.{chosen}
+use Rattle.results.specs.Operation.{refusal}
+use Rattle.line.specs.Line.{letter, room, by-letter, program}
+use Rattle.programs.specs.Words.{of-bytes}
+
+-- ---- a code
+pub unknown : (code : ℕ) → 2 < code → chosen code ≡ Unknown
+unknown zero h = absurd (omega arith)
+unknown (suc zero) h = absurd (omega arith)
+unknown (suc (suc zero)) h = absurd (omega arith)
+unknown (suc (suc (suc n))) h = refl
+
+pub known : (code : ℕ) → code ≤ 2 → (op : Operation) × (chosen code ≡ Known op)
+known zero h = (Union, refl)
+known (suc zero) h = (Intersection, refl)
+known (suc (suc zero)) h = (Difference, refl)
+known (suc (suc (suc n))) h = absurd (omega arith)
+
+-- ---- the length
+module _ (op : Operation) (bs : List ℕ) where
+  pub too-long : 32767 < length bs → by-letter (Known op) bs ≡ refusal 9 room
+  too-long h = rw (by-letter, lt-ltb 32768 (suc (length bs)) (omega arith))
+
+  pub not-long : length bs ≤ 32767 → by-letter (Known op) bs ≡ of-bytes op bs
+  unfolding of-bytes
+  not-long h = rw (by-letter, le-ltb 32768 (suc (length bs)) (omega arith))
+
+-- ---- the first byte
+pub no-letter : (bs : List ℕ) → length bs ≡ 0 → program bs ≡ refusal 9 room
+unfolding program
+no-letter [] e = refl
+no-letter (b ∷ bs) e = absurd (omega arith)
+
+pub at-letter : (bs : List ℕ) → 0 < length bs → program bs ≡ by-letter (letter (getD bs 0 0)) (drop 1 bs)
+unfolding program
+at-letter [] h = absurd (omega arith)
+at-letter (b ∷ bs) h = refl

@@ -1,0 +1,118 @@
+-- `of_walks` meets its contract: A's refusal, B's, or the operation on the fronts, which are there.
+use mathlib.Core.Path.{_≡_, sym, ap, _∙_}
+use Prim.Native.Nat.{_≤_}
+use native.Mathlib.Omega.{arith}
+use lib.Seq.{length-take-le}
+use borrow.Author.Needs.{needs}
+use Rattle.solids.specs.Refusals.{accepted}
+use Rattle.files.proofs.Outcomes.{refused-by, few}
+use Rattle.programs.specs.Answers.{made}
+use Rattle.programs.specs.Words.{kept-admission}
+use Rattle.programs.proofs.Fronts.{kept-numbered, accepted-few, then-A-kept, then-B-kept, then-operation}
+use Rattle.programs.proofs.inputs.of_walks.Statement.{statement}
+use Rattle.programs.proofs.inputs.of_walks.Tie as tie
+
+-- past A's admission, and past B's
+accepted-A : (c : tie.Else1)
+    → let a = c .before .before .before .before .before .before .args in kept-admission (a .first) (a .ap .now) (a .ac .now) ≡ accepted
+accepted-A c =
+    let a = c .before .before .before .before .before .before .args in
+    kept-numbered (a .first) (a .ap .now) (a .ac .now) (sym (c .before .admitted .ensures) ∙ c .if1 .left)
+
+accepted-B : (c : tie.Else2)
+    → let a = c .before .before .before .before .before .before .before .before .args in kept-admission (a .second) (a .bp .now) (a .bc .now) ≡ accepted
+accepted-B c =
+    let a = c .before .before .before .before .before .before .before .before .args in
+    kept-numbered (a .second) (a .bp .now) (a .bc .now) (sym (c .before .admitted2 .ensures) ∙ c .if2 .left)
+
+few-A : (c : tie.Else1) → let w = c .before .before .before .before .before .before .args .first in (w .vertices ≤ 128) × (w .facets ≤ 256)
+few-A c =
+    let a = c .before .before .before .before .before .before .args in
+    few (a .first) (accepted-few (a .first) (a .ap .now) (a .ac .now) (accepted-A c))
+
+few-B : (c : tie.Else2) → let w = c .before .before .before .before .before .before .before .before .args .second in (w .vertices ≤ 128) × (w .facets ≤ 256)
+few-B c =
+    let a = c .before .before .before .before .before .before .before .before .args in
+    few (a .second) (accepted-few (a .second) (a .bp .now) (a .bc .now) (accepted-B c))
+
+admitted-requires : tie.Need-admitted-requires
+admitted-requires c κs = search needs
+
+refused-requires : tie.Need-refused-requires
+refused-requires c κs = search needs
+
+returns : tie.Need-returns
+returns c =
+    let k = c .before .before in
+    let a = k .before .before .before .before .before .args in
+    c .refused .ensures
+    ∙ sym (ap made (then-A-kept (a .code) (a .first) (a .ap .now) (a .ac .now) (a .second) (a .bp .now) (a .bc .now) _ (refused-by _ _ (k .admitted .ensures) (c .before .if1 .taken))))
+
+admitted-requires-2 : tie.Need-admitted-requires-2
+admitted-requires-2 c κs = search needs
+
+refused-requires-2 : tie.Need-refused-requires-2
+refused-requires-2 c κs = search needs
+
+returns-2 : tie.Need-returns-2
+returns-2 c =
+    let k = c .before .before in
+    let a = k .before .before .before .before .before .before .before .args in
+    c .refused2 .ensures
+    ∙ sym (ap made (then-B-kept (a .code) (a .first) (a .ap .now) (a .ac .now) (a .second) (a .bp .now) (a .bc .now) _ (accepted-A (k .before))
+    (refused-by _ _ (k .admitted2 .ensures) (c .before .if2 .taken))))
+
+mul-i : tie.Need-mul-i
+mul-i c = omega (arith, few-A (c .before .before .before))
+
+mul-j : tie.Need-mul-j
+mul-j c = omega (arith, few-A (c .before .before .before .before))
+
+mul-n : tie.Need-mul-n
+mul-n c = omega (arith, few-B (c .before .before .before))
+
+mul-m : tie.Need-mul-m
+mul-m c = omega (arith, few-B (c .before .before .before .before))
+
+slice-aggregate-operated : tie.Need-slice-aggregate-operated
+slice-aggregate-operated c = sym (length-take-le _ _ (omega (arith, few-A (c .before .before .before .before .before .before .before))))
+
+slice-aggregate-operated-2 : tie.Need-slice-aggregate-operated-2
+slice-aggregate-operated-2 c = sym (length-take-le _ _ (omega (arith, few-A (c .before .before .before .before .before .before .before .before))))
+
+slice-aggregate-operated-3 : tie.Need-slice-aggregate-operated-3
+slice-aggregate-operated-3 c = sym (length-take-le _ _ (omega (arith, few-B (c .before .before .before .before .before .before .before))))
+
+slice-aggregate-operated-4 : tie.Need-slice-aggregate-operated-4
+slice-aggregate-operated-4 c = sym (length-take-le _ _ (omega (arith, few-B (c .before .before .before .before .before .before .before .before))))
+
+operated-requires : tie.Need-operated-requires
+operated-requires c κs = search needs
+
+returns-3 : tie.Need-returns-3
+returns-3 c =
+    let k = c .before .before .before .before .before .before .before .before .before in
+    let a = k .before .before .before .before .before .before .before .before .args in
+    c .operated .ensures
+    ∙ sym (ap made (then-operation (a .code) (a .first) (a .ap .now) (a .ac .now) (a .second) (a .bp .now) (a .bc .now) (accepted-A (k .before .before)) (accepted-B k)))
+
+pub of-walks-spec : {M : Type 1} → statement M
+of-walks-spec =
+    tie.close
+    (tie.spec
+    admitted-requires
+    refused-requires
+    returns
+    admitted-requires-2
+    refused-requires-2
+    returns-2
+    mul-i
+    mul-j
+    mul-n
+    mul-m
+    slice-aggregate-operated
+    slice-aggregate-operated-2
+    slice-aggregate-operated-3
+    slice-aggregate-operated-4
+    operated-requires
+    returns-3)

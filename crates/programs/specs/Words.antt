@@ -1,0 +1,44 @@
+-- Words of contracts between functions of this crate; no public statement needs them. What the fronts of two walks' lists come to.
+use mathlib.Core.Path.{_≡_}
+use mathlib.Core.Bool.{cond}
+use mathlib.Core.List.{List, [], _∷_}
+use Prim.Native.Nat.{ℕ, _*_}
+use lib.ListN.{length, take, drop}
+use lib.Ieee.{Float}
+use Rattle.solids.specs.Refusals.{Verdict, accepted, refused, in-order}
+use Rattle.solids.specs.Solids.{Solid, solid}
+use Rattle.solids.specs.Admission.{admission}
+use Rattle.results.specs.declared.Operation.{Operation}
+use Rattle.results.specs.Operation.{Outcome, refusal, operation}
+use Rattle.housefile.specs.Reader.{layout}
+use Rattle.files.specs.declared.Walk.{Walk}
+use Rattle.files.specs.Walking.{many}
+use Rattle.programs.specs.declared.Text.{Text}
+use Rattle.line.specs.Line.{room, behind, of-files}
+
+-- a file's solid, in the fronts of what a walk kept
+abbrev pub front : Walk → List Float → List ℕ → Solid
+front w ps cs = solid (take (3 * w .vertices) ps) (take (3 * w .facets) cs)
+
+-- its admission; of too many vertices or facets not all are kept
+unfoldable pub kept-admission : Walk → List Float → List ℕ → Verdict
+kept-admission w ps cs = cond (many w) (refused 2) (admission (front w ps cs))
+
+abbrev pub past : Verdict → Outcome → Outcome
+past accepted o = o
+past (refused n) o = refusal n room
+
+-- "then come A's other refusals, B's", and past them the operation
+unfoldable pub of-walks : ℕ → Walk → List Float → List ℕ → Walk → List Float → List ℕ → Outcome
+of-walks code w ps cs v qs ds =
+    past (in-order (kept-admission w ps cs ∷ kept-admission v qs ds ∷ [])) (operation code (front w ps cs) (front v qs ds) room)
+
+-- two files behind each other
+unfoldable pub of-bytes : Operation → List ℕ → Outcome
+of-bytes op bs = let first = layout bs in of-files op first (layout (behind first bs)) (length bs)
+
+-- ---- texts
+
+-- behind the later text, the bytes are those of the earlier one
+abbrev pub Same-behind : Text → Text → Type 0
+Same-behind t r = drop (r .length) (r .bytes) ≡ drop (r .length) (t .bytes)

@@ -1,0 +1,31 @@
+// What the program `solid` prints, as a function of its input: what the two files come to, and the line that says so.
+mod inputs;
+mod numbers;
+
+use results::Made;
+ghost use mathlib.Core.Path.{_≡_};
+ghost use Rattle.line.specs.Line as Li;
+ghost use Rattle.programs.specs.Answers as An;
+
+// A text is the front of its bytes, which have room for a line of three numbers of any size; behind it are zeros.
+pub struct Text {
+    pub bytes: [u8; 64],
+    pub length: usize,
+}
+
+// The three numbers that the program prints.
+pub fn outcome(input: &[u8]) -> Made
+    ensures { λ r. ⌜ r ≡ An.made (Li.program (now (input .entry))) ⌝ }
+{
+    if input.len() == 0 {
+        return inputs::refused(9);
+    }
+    inputs::by_code(inputs::code_of(input[0]), &input[1..])
+}
+
+// The line that the program prints.
+pub fn printed(input: &[u8]) -> Text
+    ensures { λ r. ⌜ (r ≡ An.text (Li.printed (now (input .entry)))) × An.Whole r ⌝ }
+{
+    numbers::line_of(outcome(input))
+}

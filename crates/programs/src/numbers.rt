@@ -1,0 +1,56 @@
+// Three numbers as a line of text.
+use crate::Text;
+use results::Made;
+ghost use mathlib.Core.Path.{_≡_};
+ghost use mathlib.Core.List.{[], _∷_, _++_};
+ghost use Prim.Native.Nat.{_+_, _<_, _≤_};
+ghost use lib.ListN.{length};
+ghost use Rattle.results.specs.Operation as Op;
+ghost use Rattle.line.specs.Line as Li;
+ghost use Rattle.programs.specs.Answers as An;
+ghost use Rattle.programs.specs.Words as Wo;
+
+fn put_byte(mut t: Text, byte: u8) -> Text
+    requires { ⌜ t .length < 64 ⌝ }
+    ensures { λ r. ⌜ (An.said r ≡ An.said t ++ (byte ∷ [])) × (r .length ≡ t .length + 1) × An.Whole r × Wo.Same-behind t r ⌝ }
+{
+    let at = t.length;
+    t.bytes[at] = byte;
+    t.length = at + 1;
+    t
+}
+
+// The digit of a number below 10.
+fn digit(n: usize) -> u8
+    requires { ⌜ n < 10 ⌝ }
+    ensures { λ r. ⌜ r ≡ 0x30 + n ⌝ }
+{
+    48 + n as u8
+}
+
+fn put_number(t: Text, n: usize) -> Text
+    requires { ⌜ t .length + length (Li.digits n) ≤ 64 ⌝ }
+    ensures { λ r. ⌜ (An.said r ≡ An.said t ++ Li.digits n) × (r .length ≡ t .length + length (Li.digits n)) × Wo.Same-behind t r ⌝ }
+{
+    if n < 10 {
+        return put_byte(t, digit(n));
+    }
+    let begun = put_number(t, n / 10);
+    put_byte(begun, digit(n % 10))
+}
+
+// "answer, vertices, triangles, separated by one blank"
+pub fn line_of(made: Made) -> Text
+    ensures { λ r. ⌜ (r ≡ An.text (Li.line (Op.called made Li.room))) × An.Whole r ⌝ }
+{
+    let empty = Text {
+        bytes: [0; 64],
+        length: 0,
+    };
+    let answer = put_number(empty, made.answer as usize);
+    let first = put_byte(answer, b' ');
+    let vertices = put_number(first, made.vertices);
+    let second = put_byte(vertices, b' ');
+    let triangles = put_number(second, made.triangles);
+    put_byte(triangles, b'\n')
+}

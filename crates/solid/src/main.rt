@@ -1,0 +1,13 @@
+// The program `solid`: one letter and two house files on standard input; the answer, the vertices and the triangles on standard output.
+use libc::STDIN_FILENO;
+use libc::STDOUT_FILENO;
+
+// There is room for one byte more than an input may have, so that a longer one is seen to be too long.
+fn main() {
+    let mut input = [0u8; 32769];
+    let n = io::read_full(STDIN_FILENO, &mut input);
+    let line = programs::printed(&input[..n]);
+    let bytes = line.bytes;
+    let length = line.length;
+    io::write_all(STDOUT_FILENO, &bytes[..length]);
+}
