@@ -1,0 +1,115 @@
+// The library's public calls for C, Rust and Python: include/ozoravesh.h declares them. Each promises what the call that it passes on promises.
+use housefile::Read;
+use housefile::Written;
+use points::Point;
+use results::Made;
+use solids::Counted;
+ghost use mathlib.Core.Path.{_≡_};
+ghost use Rattle.solids.specs.Solids as So;
+ghost use Rattle.solids.specs.Admission as Ad;
+ghost use Rattle.solids.specs.Refusals as Re;
+ghost use Rattle.solids.specs.Containment as Co;
+ghost use Rattle.results.specs.Operation as Op;
+ghost use Rattle.housefile.specs.Reader as Rd;
+ghost use Rattle.housefile.specs.Writer as Wr;
+ghost use Rattle.line.specs.Line as Li;
+ghost use Rattle.programs.specs.Answers as An;
+ghost use Rattle.capi.specs.Shown as Sh;
+
+// Union (0), intersection (1) or difference (2) of A and B.
+#[no_mangle]
+pub extern "C" fn ozoravesh_operate(
+    code: u32,
+    ap: &[f64],
+    ac: &[u32],
+    bp: &[f64],
+    bc: &[u32],
+    points: &mut [f64],
+    corners: &mut [u32],
+    origins: &mut [u32],
+) -> Made
+    ensures { λ r. ⌜ Op.called r (Op.lists (now (points .exit)) (now (corners .exit)) (now (origins .exit))) ≡ Op.operation code (So.solid (now (ap .entry)) (now (ac .entry))) (So.solid (now (bp .entry)) (now (bc .entry))) (Op.lists (now (points .entry)) (now (corners .entry)) (now (origins .entry))) ⌝ }
+{
+    operations::operate(code, ap, ac, bp, bc, points, corners, origins)
+}
+
+// The answer of a solid's admission.
+#[no_mangle]
+pub extern "C" fn ozoravesh_admit(points: &[f64], corners: &[u32]) -> u32
+    ensures { λ r. ⌜ r ≡ Re.answer (Ad.admission (So.solid (now (points .entry)) (now (corners .entry)))) ⌝ }
+{
+    checks::admission::admit(points, corners)
+}
+
+// How often the solid, as A, contains the point x, y, z.
+#[no_mangle]
+pub extern "C" fn ozoravesh_count_as_a(
+    x: f64,
+    y: f64,
+    z: f64,
+    points: &[f64],
+    corners: &[u32],
+) -> Counted
+    ensures { λ r. ⌜ r ≡ Co.count-as-A (record { x = x; y = y; z = z }) (So.solid (now (points .entry)) (now (corners .entry))) ⌝ }
+{
+    checks::containment::count_as_a(Point { x, y, z }, points, corners)
+}
+
+// How often the solid, as B, contains the point x, y, z.
+#[no_mangle]
+pub extern "C" fn ozoravesh_count_as_b(
+    x: f64,
+    y: f64,
+    z: f64,
+    points: &[f64],
+    corners: &[u32],
+) -> Counted
+    ensures { λ r. ⌜ r ≡ Co.count-as-B (record { x = x; y = y; z = z }) (So.solid (now (points .entry)) (now (corners .entry))) ⌝ }
+{
+    checks::containment::count_as_b(Point { x, y, z }, points, corners)
+}
+
+// What an origin shows, in the front of a lent list.
+#[no_mangle]
+pub extern "C" fn ozoravesh_shown<'a>(
+    ac: &'a [u32],
+    bc: &'a [u32],
+    origin: usize,
+    part: &mut [u32],
+) -> Written
+    ensures { λ r. ⌜ Wr.outcome r (now (part .exit)) ≡ Sh.show (now (ac .entry)) (now (bc .entry)) origin (now (part .entry)) ⌝ }
+{
+    let found = origins::shown(ac, bc, origin);
+    if part.len() < found.len() {
+        return Written { answer: 8, used: 0 };
+    }
+    files::reader::copy_corners(found, part);
+    Written {
+        answer: 0,
+        used: found.len(),
+    }
+}
+
+// A house file's solid, in the fronts of two lent lists.
+#[no_mangle]
+pub extern "C" fn ozoravesh_read(bytes: &[u8], points: &mut [f64], corners: &mut [u32]) -> Read
+    ensures { λ r. ⌜ Rd.outcome r (now (points .exit)) (now (corners .exit)) ≡ Rd.read (now (bytes .entry)) (now (points .entry)) (now (corners .entry)) ⌝ }
+{
+    files::reader::read(bytes, points, corners)
+}
+
+// A solid's house file, in the front of lent bytes.
+#[no_mangle]
+pub extern "C" fn ozoravesh_write(points: &[f64], corners: &[u32], bytes: &mut [u8]) -> Written
+    ensures { λ r. ⌜ Wr.outcome r (now (bytes .exit)) ≡ Wr.write (So.solid (now (points .entry)) (now (corners .entry))) (now (bytes .entry)) ⌝ }
+{
+    files::writer::write(points, corners, bytes)
+}
+
+// The three numbers that the program `solid` prints for this input.
+#[no_mangle]
+pub extern "C" fn ozoravesh_program(input: &[u8]) -> Made
+    ensures { λ r. ⌜ r ≡ An.made (Li.program (now (input .entry))) ⌝ }
+{
+    programs::outcome(input)
+}

@@ -1,0 +1,145 @@
+/* Ozoravesh: Boolean operations on closed triangle meshes, for C. Link with libcapi.a.
+
+   Lists. A list is a pointer and, right behind it, its length: how many numbers it holds, not how
+   many bytes. A list of length 0 is never looked at, and its pointer may be null. A list that is
+   not const is lent: it holds the answer afterwards. A lent list may not overlap any other list of
+   the same call. Pointers are aligned as their type asks. Nothing else is asked of a caller: every
+   call says what it does for all numbers in all lists of all lengths.
+
+   Solids. A solid is two lists: coordinates, three a vertex (x, y, z: head, flow and output), and
+   corners, three vertex numbers a facet, counted from 0. The solid of two empty lists means
+   "nothing".
+
+   Answers. Each call answers 0 or the number of the first check that refuses it:
+
+     1  a list's length is not a multiple of three
+     2  more than 128 vertices or 256 facets
+     3  some coordinate is a NaN (a blank)
+     4  some coordinate is above 1,048,576 or below -1,048,576, infinities included
+     5  a corner number is not below the vertex count, or a facet names a vertex twice
+     6  for some P and Q the half-edges P->Q and Q->P differ in number
+     7  unknown operation code (0 union, 1 intersection, 2 difference)
+     8  a lent list is too short for the answer
+     9  a file or input does not follow the layout
+
+   A refused call has all its counts 0 and has changed no lent list. On success the fronts of the
+   lent lists hold the answer, and everything behind is as before.
+
+   No call keeps anything from one time to the next, takes memory from the heap, or looks at errno,
+   the locale or a file: calls in several threads do not meet. An operation takes about 1.3 million
+   bytes of stack, which no proof bounds: see to it in threads with a small one. The floating-point
+   environment is to be C's own at the start of a program (round to nearest, subnormal numbers
+   kept). */
+#ifndef OZORAVESH_H
+#define OZORAVESH_H
+
+#include <stddef.h>
+#include <stdint.h>
+
+#ifdef __cplusplus
+extern "C" {
+#endif
+
+/* Operation codes. */
+#define OZORAVESH_UNION 0u
+#define OZORAVESH_INTERSECTION 1u
+#define OZORAVESH_DIFFERENCE 2u
+
+/* What an operation answers, with the vertices and triangles of its result. */
+typedef struct {
+    uint32_t answer;
+    size_t vertices;
+    size_t triangles;
+} ozoravesh_made;
+
+/* What a point count answers, with how often the solid contains the point. The count of a badly
+   shaped solid may be above 1 or below 0. */
+typedef struct {
+    uint32_t answer;
+    int32_t count;
+} ozoravesh_counted;
+
+/* What a reading answers, with the vertices and facets of the solid and the bytes of its file. */
+typedef struct {
+    uint32_t answer;
+    size_t vertices;
+    size_t facets;
+    size_t used;
+} ozoravesh_was_read;
+
+/* What a call that fills one list answers, with how many numbers it put into the list's front. */
+typedef struct {
+    uint32_t answer;
+    size_t used;
+} ozoravesh_written;
+
+/* The union, the intersection or the difference (A less B) of A and B.
+   Checks 7, then A by 1 to 6, then B by 1 to 6, then 8.
+   On success `points` begins with 3 * vertices coordinates, `corners` with 3 * triangles vertex
+   numbers and `origins` with triangles numbers: the facet that each triangle comes from, A's by
+   its number and B's by A's facet count plus its number. The result is closed, and where it is
+   small enough (2) it is admitted again. */
+ozoravesh_made ozoravesh_operate(
+    uint32_t code,
+    const double *a_points, size_t a_points_length,
+    const uint32_t *a_corners, size_t a_corners_length,
+    const double *b_points, size_t b_points_length,
+    const uint32_t *b_corners, size_t b_corners_length,
+    double *points, size_t points_length,
+    uint32_t *corners, size_t corners_length,
+    uint32_t *origins, size_t origins_length);
+
+/* The answer of the checks 1 to 6 on one solid. */
+uint32_t ozoravesh_admit(
+    const double *points, size_t points_length,
+    const uint32_t *corners, size_t corners_length);
+
+/* How often the solid, taken as A, contains the point x, y, z.
+   Checks the point by 3 and 4, then the solid by 1 to 6. */
+ozoravesh_counted ozoravesh_count_as_a(
+    double x, double y, double z,
+    const double *points, size_t points_length,
+    const uint32_t *corners, size_t corners_length);
+
+/* The same with the solid taken as B. The two differ at points on the solid itself. */
+ozoravesh_counted ozoravesh_count_as_b(
+    double x, double y, double z,
+    const double *points, size_t points_length,
+    const uint32_t *corners, size_t corners_length);
+
+/* The three corners of the facet that an origin stands for, from the corner lists of A and of B,
+   in the front of `part`. An origin beyond both lists (facet counts rounded down) shows nothing:
+   answer 0 and used 0. The corner lists are not checked. Checks 8. */
+ozoravesh_written ozoravesh_shown(
+    const uint32_t *a_corners, size_t a_corners_length,
+    const uint32_t *b_corners, size_t b_corners_length,
+    size_t origin,
+    uint32_t *part, size_t part_length);
+
+/* The solid of a house file. Checks 9, then 2, 8, 3 to 6.
+   On success `points` begins with 3 * vertices coordinates and `corners` with 3 * facets vertex
+   numbers; `used` is the file's length with its end mark. Bytes behind that are not looked at. */
+ozoravesh_was_read ozoravesh_read(
+    const uint8_t *bytes, size_t bytes_length,
+    double *points, size_t points_length,
+    uint32_t *corners, size_t corners_length);
+
+/* The house file of a solid, in the front of `bytes`: 26 bytes a vertex, 14 a facet, and 2.
+   Checks 1 to 6, then 8. */
+ozoravesh_written ozoravesh_write(
+    const double *points, size_t points_length,
+    const uint32_t *corners, size_t corners_length,
+    uint8_t *bytes, size_t bytes_length);
+
+/* The three numbers that the program `solid` prints when these bytes are its standard input: one
+   letter (U, I or D), A's file, B's file, nothing more. No letter is 9, an unknown letter 7 before
+   the files are looked at; then more than 32,768 bytes, a layout fault in either file or trailing
+   bytes are 9; then come A's other refusals, B's, and last 8 (there is room for 512 vertices and
+   1,024 triangles). */
+ozoravesh_made ozoravesh_program(const uint8_t *input, size_t input_length);
+
+#ifdef __cplusplus
+}
+#endif
+
+#endif

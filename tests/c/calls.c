@@ -1,0 +1,271 @@
+/* Calls every function of include/ozoravesh.h: the samples of document 01 that speak of calls,
+   lists of length 0 with a null pointer, blanks, and rooms that are too short by one. Lent lists
+   are filled with a mark before each call, so that what a call leaves alone is seen. */
+#include "../../include/ozoravesh.h"
+#include <stdio.h>
+#include <string.h>
+
+static int checks = 0;
+static int failed = 0;
+
+static void expect(int holds, int line) {
+    checks++;
+    if (!holds) {
+        failed++;
+        printf("calls.c:%d: does not hold\n", line);
+    }
+}
+#define EXPECT(fact) expect((fact), __LINE__)
+
+/* T of the sample table. */
+static const double T[12] = {0, 0, 0, 4, 0, 0, 0, 4, 0, 0, 0, 4};
+static const uint32_t F[12] = {0, 2, 1, 0, 1, 3, 0, 3, 2, 1, 2, 3};
+
+static double blank(void) {
+    uint64_t bits = 0x7ff8000000000000u;
+    double x;
+    memcpy(&x, &bits, sizeof x);
+    return x;
+}
+
+/* The f64 above a positive one. */
+static double above(double x) {
+    uint64_t bits;
+    memcpy(&bits, &x, sizeof x);
+    bits++;
+    memcpy(&x, &bits, sizeof x);
+    return x;
+}
+
+/* Lent lists, with room behind what the calls are told of. */
+static double points[400];
+static uint32_t corners[800];
+static uint32_t origins[300];
+static uint8_t bytes[8000];
+
+static void mark(void) {
+    memset(points, 0x5a, sizeof points);
+    memset(corners, 0x5a, sizeof corners);
+    memset(origins, 0x5a, sizeof origins);
+    memset(bytes, 0x5a, sizeof bytes);
+}
+
+/* Is the mark still there from byte `from` on? */
+static int marked(const void *list, size_t size, size_t from) {
+    const uint8_t *b = list;
+    for (size_t i = from; i < size; i++) {
+        if (b[i] != 0x5a) {
+            return 0;
+        }
+    }
+    return 1;
+}
+
+/* All four lists as they were behind so many numbers of each. */
+static int kept(size_t np, size_t nc, size_t no, size_t nb) {
+    return marked(points, sizeof points, np * sizeof points[0])
+        && marked(corners, sizeof corners, nc * sizeof corners[0])
+        && marked(origins, sizeof origins, no * sizeof origins[0]) && marked(bytes, sizeof bytes, nb);
+}
+
+static void admission(void) {
+    static double many[387];
+    static const double one[3] = {1048576.0, -1048576.0, 0};
+    double p[12];
+    uint32_t f[12];
+
+    EXPECT(ozoravesh_admit(NULL, 0, NULL, 0) == 0);
+    EXPECT(ozoravesh_admit(T, 12, F, 12) == 0);
+    EXPECT(ozoravesh_admit(T, 12, NULL, 0) == 0);
+    EXPECT(ozoravesh_admit(T, 11, F, 12) == 1);
+    EXPECT(ozoravesh_admit(T, 12, F, 10) == 1);
+    EXPECT(ozoravesh_admit(many, 384, NULL, 0) == 0);
+    EXPECT(ozoravesh_admit(many, 387, NULL, 0) == 2);
+    EXPECT(ozoravesh_admit(one, 3, NULL, 0) == 0);
+    EXPECT(ozoravesh_admit(NULL, 0, F, 12) == 5);
+    EXPECT(ozoravesh_admit(T, 12, F, 9) == 6);
+
+    memcpy(p, T, sizeof p);
+    p[5] = above(1048576.0);
+    EXPECT(ozoravesh_admit(p, 12, F, 12) == 4);
+    p[7] = blank();
+    EXPECT(ozoravesh_admit(p, 12, F, 12) == 3);
+    EXPECT(ozoravesh_admit(p, 12, F, 9) == 3);
+
+    memcpy(f, F, sizeof f);
+    f[11] = 4;
+    EXPECT(ozoravesh_admit(T, 12, f, 12) == 5);
+    f[11] = 4294967295u;
+    EXPECT(ozoravesh_admit(T, 12, f, 12) == 5);
+    f[11] = 2;
+    EXPECT(ozoravesh_admit(T, 12, f, 12) == 5);
+}
+
+static int counts(ozoravesh_counted c, uint32_t answer, int32_t count) {
+    return c.answer == answer && c.count == count;
+}
+
+static void containment(void) {
+    double p[12];
+
+    /* P3 to P8 */
+    EXPECT(counts(ozoravesh_count_as_b(2, 1, 0.5, T, 12, F, 12), 0, 1));
+    EXPECT(counts(ozoravesh_count_as_b(2, 1, 1, T, 12, F, 12), 0, 1));
+    EXPECT(counts(ozoravesh_count_as_b(2, 1, 0, T, 12, F, 12), 0, 0));
+    EXPECT(counts(ozoravesh_count_as_b(2, 1, 1.5, T, 12, F, 12), 0, 0));
+    EXPECT(counts(ozoravesh_count_as_a(2, 1, 1, T, 12, F, 12), 0, 0));
+    EXPECT(counts(ozoravesh_count_as_a(2, 1, 0, T, 12, F, 12), 0, 1));
+
+    EXPECT(counts(ozoravesh_count_as_a(2, 1, 0, NULL, 0, NULL, 0), 0, 0));
+    EXPECT(counts(ozoravesh_count_as_b(2, 1, 0, NULL, 0, NULL, 0), 0, 0));
+    EXPECT(counts(ozoravesh_count_as_a(2, blank(), 0, T, 11, F, 12), 3, 0));
+    EXPECT(counts(ozoravesh_count_as_b(above(1048576.0), 1, blank(), T, 12, F, 12), 3, 0));
+    EXPECT(counts(ozoravesh_count_as_b(2, 1, -above(1048576.0), T, 11, F, 12), 4, 0));
+    EXPECT(counts(ozoravesh_count_as_a(2, 1, 0, T, 11, F, 12), 1, 0));
+    EXPECT(counts(ozoravesh_count_as_b(2, 1, 0.5, T, 12, F, 9), 6, 0));
+    memcpy(p, T, sizeof p);
+    p[0] = blank();
+    EXPECT(counts(ozoravesh_count_as_a(2, 1, 0.5, p, 12, F, 12), 3, 0));
+
+    /* T turned inside out contains the point -1 times. */
+    {
+        static const uint32_t turned[12] = {0, 1, 2, 0, 3, 1, 0, 2, 3, 1, 3, 2};
+        EXPECT(counts(ozoravesh_count_as_b(2, 1, 0.5, T, 12, turned, 12), 0, -1));
+    }
+}
+
+static int fills(ozoravesh_written w, uint32_t answer, size_t used) {
+    return w.answer == answer && w.used == used;
+}
+
+static void showing(void) {
+    static const uint32_t g[8] = {9, 8, 7, 6, 5, 4, 3, 2};
+
+    mark();
+    EXPECT(fills(ozoravesh_shown(F, 12, g, 8, 3, corners, 3), 0, 3));
+    EXPECT(corners[0] == 1 && corners[1] == 2 && corners[2] == 3 && kept(0, 3, 0, 0));
+    mark();
+    EXPECT(fills(ozoravesh_shown(F, 12, g, 8, 5, corners, 800), 0, 3));
+    EXPECT(corners[0] == 6 && corners[1] == 5 && corners[2] == 4 && kept(0, 3, 0, 0));
+    mark();
+    EXPECT(fills(ozoravesh_shown(F, 12, g, 8, 0, corners, 2), 8, 0));
+    EXPECT(fills(ozoravesh_shown(F, 12, g, 8, 4, NULL, 0), 8, 0));
+    EXPECT(fills(ozoravesh_shown(F, 12, g, 8, 6, corners, 3), 0, 0));
+    EXPECT(fills(ozoravesh_shown(F, 12, g, 8, (size_t)-1, NULL, 0), 0, 0));
+    EXPECT(fills(ozoravesh_shown(NULL, 0, NULL, 0, 0, corners, 3), 0, 0));
+    EXPECT(fills(ozoravesh_shown(F, 2, g, 8, 0, corners, 3), 0, 3));
+    EXPECT(corners[0] == 9 && corners[1] == 8 && corners[2] == 7 && kept(0, 3, 0, 0));
+}
+
+static int is_read(ozoravesh_was_read r, uint32_t answer, size_t vertices, size_t facets, size_t used) {
+    return r.answer == answer && r.vertices == vertices && r.facets == facets && r.used == used;
+}
+
+static void files(void) {
+    uint8_t file[162];
+    double p[12];
+
+    /* T's file has 4 * 26 + 4 * 14 + 2 bytes. */
+    mark();
+    EXPECT(fills(ozoravesh_write(T, 12, F, 12, bytes, 161), 8, 0));
+    EXPECT(fills(ozoravesh_write(T, 12, F, 12, NULL, 0), 8, 0));
+    EXPECT(fills(ozoravesh_write(T, 12, F, 9, bytes, 8000), 6, 0));
+    EXPECT(fills(ozoravesh_write(T, 12, F, 11, NULL, 0), 1, 0));
+    memcpy(p, T, sizeof p);
+    p[11] = blank();
+    EXPECT(fills(ozoravesh_write(p, 12, F, 12, bytes, 8000), 3, 0));
+    EXPECT(kept(0, 0, 0, 0));
+    EXPECT(fills(ozoravesh_write(NULL, 0, NULL, 0, bytes, 2), 0, 2));
+    EXPECT(bytes[0] == 'E' && bytes[1] == 'N' && kept(0, 0, 0, 2));
+    EXPECT(fills(ozoravesh_write(T, 12, F, 12, bytes, 162), 0, 162));
+    EXPECT(memcmp(bytes, "VX", 2) == 0 && memcmp(bytes + 104, "FC", 2) == 0 && memcmp(bytes + 160, "EN", 2) == 0 && kept(0, 0, 0, 162));
+
+    memcpy(file, bytes, sizeof file);
+    mark();
+    EXPECT(is_read(ozoravesh_read(NULL, 0, points, 400, corners, 800), 9, 0, 0, 0));
+    EXPECT(is_read(ozoravesh_read(file, 161, points, 400, corners, 800), 9, 0, 0, 0));
+    EXPECT(is_read(ozoravesh_read(file, 162, points, 11, corners, 800), 8, 0, 0, 0));
+    EXPECT(is_read(ozoravesh_read(file, 162, points, 400, corners, 11), 8, 0, 0, 0));
+    EXPECT(is_read(ozoravesh_read(file, 162, NULL, 0, NULL, 0), 8, 0, 0, 0));
+    EXPECT(is_read(ozoravesh_read((const uint8_t *)"ENxyz", 5, NULL, 0, NULL, 0), 0, 0, 0, 2));
+    /* A blank in the last vertex's z: its high bytes are the file's last before the facets. */
+    file[102] = 0xf8;
+    file[103] = 0x7f;
+    EXPECT(is_read(ozoravesh_read(file, 162, points, 12, corners, 12), 3, 0, 0, 0));
+    file[103] = 0xff;
+    EXPECT(is_read(ozoravesh_read(file, 162, points, 12, corners, 12), 3, 0, 0, 0));
+    EXPECT(kept(0, 0, 0, 0));
+    file[102] = 0x10;
+    file[103] = 0x40;
+    EXPECT(is_read(ozoravesh_read(file, 162, points, 12, corners, 12), 0, 4, 4, 162));
+    EXPECT(memcmp(points, T, sizeof T) == 0 && memcmp(corners, F, sizeof F) == 0 && kept(12, 12, 0, 0));
+}
+
+static int makes(ozoravesh_made m, uint32_t answer, size_t vertices, size_t triangles) {
+    return m.answer == answer && m.vertices == vertices && m.triangles == triangles;
+}
+
+static void operations(void) {
+    static const double lone[3] = {1, 2, 3};
+    static const uint32_t four[4] = {0, 1, 2, 3};
+    double p[12];
+
+    /* P11: T less nothing, in just enough room, and with one number less in each list. */
+    mark();
+    EXPECT(makes(ozoravesh_operate(2, T, 12, F, 12, NULL, 0, NULL, 0, points, 11, corners, 12, origins, 4), 8, 0, 0));
+    EXPECT(makes(ozoravesh_operate(2, T, 12, F, 12, NULL, 0, NULL, 0, points, 12, corners, 11, origins, 4), 8, 0, 0));
+    EXPECT(makes(ozoravesh_operate(2, T, 12, F, 12, NULL, 0, NULL, 0, points, 12, corners, 12, origins, 3), 8, 0, 0));
+    EXPECT(makes(ozoravesh_operate(2, T, 12, F, 12, NULL, 0, NULL, 0, NULL, 0, NULL, 0, NULL, 0), 8, 0, 0));
+    EXPECT(kept(0, 0, 0, 0));
+    EXPECT(makes(ozoravesh_operate(2, T, 12, F, 12, NULL, 0, NULL, 0, points, 12, corners, 12, origins, 4), 0, 4, 4));
+    EXPECT(memcmp(points, T, sizeof T) == 0 && memcmp(corners, F, sizeof F) == 0 && memcmp(origins, four, sizeof four) == 0 && kept(12, 12, 4, 0));
+
+    /* P12 and P13, and nothing with nothing. */
+    mark();
+    EXPECT(makes(ozoravesh_operate(1, T, 12, F, 12, NULL, 0, NULL, 0, points, 12, corners, 12, origins, 4), 0, 0, 0));
+    EXPECT(makes(ozoravesh_operate(1, T, 12, F, 12, NULL, 0, NULL, 0, NULL, 0, NULL, 0, NULL, 0), 0, 0, 0));
+    EXPECT(makes(ozoravesh_operate(0, NULL, 0, NULL, 0, NULL, 0, NULL, 0, NULL, 0, NULL, 0, NULL, 0), 0, 0, 0));
+    EXPECT(kept(0, 0, 0, 0));
+    EXPECT(makes(ozoravesh_operate(0, lone, 3, NULL, 0, NULL, 0, NULL, 0, points, 3, NULL, 0, NULL, 0), 0, 1, 0));
+    EXPECT(memcmp(points, lone, sizeof lone) == 0 && kept(3, 0, 0, 0));
+
+    /* The order of refusals: 7, A's, B's, 8. */
+    mark();
+    memcpy(p, T, sizeof p);
+    p[4] = blank();
+    EXPECT(makes(ozoravesh_operate(3, p, 11, F, 12, T, 12, F, 12, points, 400, corners, 800, origins, 300), 7, 0, 0));
+    EXPECT(makes(ozoravesh_operate(4294967295u, T, 12, F, 12, T, 12, F, 12, points, 400, corners, 800, origins, 300), 7, 0, 0));
+    EXPECT(makes(ozoravesh_operate(0, p, 12, F, 12, T, 11, F, 12, points, 400, corners, 800, origins, 300), 3, 0, 0));
+    EXPECT(makes(ozoravesh_operate(1, T, 12, F, 12, p, 12, F, 9, points, 400, corners, 800, origins, 300), 3, 0, 0));
+    EXPECT(makes(ozoravesh_operate(2, T, 12, F, 9, p, 12, F, 12, NULL, 0, NULL, 0, NULL, 0), 6, 0, 0));
+    EXPECT(kept(0, 0, 0, 0));
+}
+
+/* The letter D, T's file and a file of only EN; the same with a byte behind it, with another letter, and cut. */
+static void program(void) {
+    uint8_t input[166];
+    input[0] = 'D';
+    EXPECT(fills(ozoravesh_write(T, 12, F, 12, input + 1, 162), 0, 162));
+    memcpy(input + 163, "ENx", 3);
+    EXPECT(makes(ozoravesh_program(input, 165), 0, 4, 4));
+    EXPECT(makes(ozoravesh_program(input, 166), 9, 0, 0));
+    EXPECT(makes(ozoravesh_program(input, 164), 9, 0, 0));
+    EXPECT(makes(ozoravesh_program(NULL, 0), 9, 0, 0));
+    input[0] = 'd';
+    EXPECT(makes(ozoravesh_program(input, 166), 7, 0, 0));
+}
+
+int main(void) {
+    admission();
+    containment();
+    showing();
+    files();
+    operations();
+    program();
+    if (failed != 0) {
+        printf("calls: %d of %d do not hold\n", failed, checks);
+        return 1;
+    }
+    printf("calls: all %d hold\n", checks);
+    return 0;
+}
