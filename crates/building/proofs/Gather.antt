@@ -5,7 +5,7 @@ use mathlib.Core.List.{List, [], _∷_, _++_, map, flatMap, zip, map-append, map
 use Prim.Native.Nat.{ℕ, zero, suc, _+_, _*_, _<_, _≤_}
 use native.Mathlib.Numerals.{add-one}
 use native.Mathlib.Omega.{arith}
-use lib.IntN.{ℤ, pos, negsuc, negℤ-negℤ}
+use lib.IntN.{ℤ, pos, negsuc, negℤ, negℤ-negℤ}
 use borrow.Author.Tests.{eqb-true}
 use lib.Dec.{eqb}
 use lib.ListN.{length, getD, set, take, replicate, length-set}
@@ -89,6 +89,20 @@ flip-b true true e = rw (negℤ-negℤ (e .count))
 flip-b true false e = refl
 flip-b false true e = refl
 flip-b false false e = refl
+
+-- turned round, an end counts if it did, and nothing is nothing
+negated-counts : (z : ℤ) → nonzero (negℤ z) ≡ nonzero z
+negated-counts (pos zero) = refl
+negated-counts (pos (suc n)) = refl
+negated-counts (negsuc n) = refl
+
+pub flip-counts : (b : Bool) (e : End) → nonzero (flip b e .count) ≡ nonzero (e .count)
+flip-counts true e = negated-counts (e .count)
+flip-counts false e = refl
+
+pub turn-none : (b : Bool) → turn b [] ≡ []
+turn-none true = refl
+turn-none false = refl
 
 -- ---- the loop over an edge's crossings
 

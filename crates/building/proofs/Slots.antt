@@ -7,7 +7,7 @@ use native.Mathlib.Decide.{decLt}
 use borrow.Author.Tests.{lt-ltb, le-ltb}
 use lib.ListN.{length}
 use Rattle.building.specs.declared.Sizes.{Sizes}
-use Rattle.building.specs.Table.{Table, edge-at, on-edge, on-facet, of-B, line-of, Within, Sized, Good}
+use Rattle.building.specs.Table.{Table, edge-at, on-edge, on-facet, of-B, total, line-of, Within, Sized, Good}
 
 -- row e of m rows of n
 pub in-row : (e m n : ℕ) → e < m → e * n + n ≤ m * n
@@ -22,6 +22,9 @@ module _ {z : Sizes} (s : Sized z) where
 
   pub few-on-facet : (f : ℕ) → f ≤ z .fa → f * z .eb ≤ 98304
   few-on-facet f h = let k : f ≤ 256 = omega (arith, s .fa) in omega (arith, mul-le-mul k (s .eb))
+
+  pub few-slots : total z ≤ 196864
+  few-slots = omega (arith, s .va, s .vb, few-edges, few-on-facet (z .fa) (omega arith))
 
 module _ (z : Sizes) where
   pub edge-in : (e g : ℕ) → e < z .ea → g < z .fb → on-edge z e g < of-B z 0

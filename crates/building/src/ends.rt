@@ -2,7 +2,8 @@
 use results::End;
 ghost use mathlib.Core.Path.{_≡_};
 ghost use Prim.Native.Nat.{_<_};
-ghost use lib.ListN.{length};
+ghost use lib.IntN.{pos};
+ghost use lib.ListN.{length, getD};
 ghost use Rattle.sums.specs.Lists.{nonzero};
 ghost use Rattle.building.specs.Table as T;
 
@@ -30,5 +31,14 @@ pub fn counts(e: End) -> bool
     ensures { λ r. ⌜ r ≡ nonzero (e .count) ⌝ }
 {
     let c = e.count;
+    c != 0
+}
+
+// Does the inclusion at slot k count?
+pub fn counted(inc: &[i16], k: usize) -> bool
+    requires { ⌜ k < length (now inc) ⌝ }
+    ensures { λ r. ⌜ r ≡ nonzero (getD (now (inc .entry)) k (pos 0)) ⌝ }
+{
+    let c = inc[k];
     c != 0
 }

@@ -4,10 +4,9 @@ use crate::ends;
 use crate::places;
 use results::End;
 ghost use mathlib.Core.Path.{_≡_};
-ghost use mathlib.Core.Bool.{not, _||_};
-ghost use mathlib.Core.List.{[], _∷_};
 ghost use Prim.Native.Nat.{_+_, _*_, _<_, _≤_};
 ghost use lib.ListN.{length};
+ghost use Rattle.sums.specs.Lists.{nonzero};
 ghost use Rattle.results.specs.Pieces.{pieces};
 ghost use Rattle.joining.specs.Flat.{flat, Behind};
 ghost use Rattle.building.specs.Table as T;
@@ -40,18 +39,48 @@ fn b_end(inc: &[i16], num: &[u32], halves: &[u32], z: Sizes, f: usize, h: usize,
     ends::end_at(inc, num, k, alike(turn, !t))
 }
 
-fn either(a: bool, b: bool) -> bool
-    ensures { λ r. ⌜ r ≡ (a || b) ⌝ }
+// Does that end of A's half-edge count? Its sign and its number are not asked for.
+fn a_counts(inc: &[i16], num: &[u32], halves: &[u32], z: Sizes, g: usize, h: usize) -> bool
+    requires { ⌜ T.Good (T.table (now inc) (now num)) (now halves) z × (g < z .fb) × (h < 3 * z .fa) ⌝ }
+    ensures { λ r. ⌜ r ≡ nonzero ((T.a-end (T.table (now (inc .entry)) (now (num .entry))) (now (halves .entry)) z g h) .count) ⌝ }
 {
-    if a { true } else { b }
+    let e = places::edge_of(halves, h);
+    let k = places::on_edge(z, e, g);
+    ends::counted(inc, k)
 }
 
-fn some_count(a: End, b: End, c: End, d: End, e: End, f: End) -> bool
-    ensures { λ r. ⌜ r ≡ T.some-count (a ∷ b ∷ c ∷ d ∷ e ∷ f ∷ []) ⌝ }
+// Does that end of B's half-edge count?
+fn b_counts(inc: &[i16], num: &[u32], halves: &[u32], z: Sizes, f: usize, h: usize) -> bool
+    requires { ⌜ T.Good (T.table (now inc) (now num)) (now halves) z × (f < z .fa) × (3 * z .fa ≤ h) × (h < 3 * (z .fa + z .fb)) ⌝ }
+    ensures { λ r. ⌜ r ≡ nonzero ((T.b-end (T.table (now (inc .entry)) (now (num .entry))) (now (halves .entry)) z f h) .count) ⌝ }
 {
-    let of_a = either(ends::counts(a), either(ends::counts(b), ends::counts(c)));
-    let of_b = either(ends::counts(d), either(ends::counts(e), ends::counts(f)));
-    either(of_a, of_b)
+    let e = places::edge_of(halves, h);
+    let k = places::on_facet(z, f, e);
+    ends::counted(inc, k)
+}
+
+// Does an end of the pair count? Only inclusions are read: most often none does.
+fn touched(inc: &[i16], num: &[u32], halves: &[u32], z: Sizes, f: usize, g: usize) -> bool
+    requires { ⌜ T.Good (T.table (now inc) (now num)) (now halves) z × (f < z .fa) × (g < z .fb) ⌝ }
+    ensures { λ r. ⌜ r ≡ T.some-count (T.pair-ends (T.table (now (inc .entry)) (now (num .entry))) (now (halves .entry)) z f g) ⌝ }
+{
+    let m = z.fa + g;
+    if a_counts(inc, num, halves, z, g, 3 * f) {
+        return true;
+    }
+    if a_counts(inc, num, halves, z, g, 3 * f + 1) {
+        return true;
+    }
+    if a_counts(inc, num, halves, z, g, 3 * f + 2) {
+        return true;
+    }
+    if b_counts(inc, num, halves, z, f, 3 * m) {
+        return true;
+    }
+    if b_counts(inc, num, halves, z, f, 3 * m + 1) {
+        return true;
+    }
+    b_counts(inc, num, halves, z, f, 3 * m + 2)
 }
 
 // The six ends are joined; `turn` turns each piece round. Where all six counts are 0 there is nothing to join.
@@ -70,24 +99,18 @@ fn pair_pieces(
     requires { ⌜ at + length (flat (T.turn turn (pieces (T.pair-ends (T.table (now inc) (now num)) (now halves) z f g)))) ≤ length (now list) ⌝ }
     ensures { λ r. ⌜ Behind (flat (T.turn turn (pieces (T.pair-ends (T.table (now (inc .entry)) (now (num .entry))) (now (halves .entry)) z f g)))) (now (list .entry)) at (now (list .exit)) r ⌝ }
 {
-    let m = z.fa + g;
-    let a0 = a_end(inc, num, halves, z, g, 3 * f, turn);
-    let a1 = a_end(inc, num, halves, z, g, 3 * f + 1, turn);
-    let a2 = a_end(inc, num, halves, z, g, 3 * f + 2, turn);
-    let b0 = b_end(inc, num, halves, z, f, 3 * m, turn);
-    let b1 = b_end(inc, num, halves, z, f, 3 * m + 1, turn);
-    let b2 = b_end(inc, num, halves, z, f, 3 * m + 2, turn);
-    if some_count(a0, a1, a2, b0, b1, b2) {
+    if touched(inc, num, halves, z, f, g) {
+        let m = z.fa + g;
         let mut all = [End {
             vertex: 0,
             count: 0,
         }; 258];
-        all[0] = a0;
-        all[1] = a1;
-        all[2] = a2;
-        all[3] = b0;
-        all[4] = b1;
-        all[5] = b2;
+        all[0] = a_end(inc, num, halves, z, g, 3 * f, turn);
+        all[1] = a_end(inc, num, halves, z, g, 3 * f + 1, turn);
+        all[2] = a_end(inc, num, halves, z, g, 3 * f + 2, turn);
+        all[3] = b_end(inc, num, halves, z, f, 3 * m, turn);
+        all[4] = b_end(inc, num, halves, z, f, 3 * m + 1, turn);
+        all[5] = b_end(inc, num, halves, z, f, 3 * m + 2, turn);
         return joining::join_at(all, 6, list, at);
     }
     at

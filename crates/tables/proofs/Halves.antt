@@ -72,6 +72,10 @@ reads s hs h k f =
     rest n true = let e : (2 * n + 1) % 2 ≡ 1 = omega arith in rw e
     rest n false = let e : (2 * n + 0) % 2 ≡ 0 = omega arith in rw e
 
+-- the list of one solid's half-edges
+pub reads-own : (s : Solid) (h : ℕ) → h < 3 * facets s → Reads s (half-list s) h (half-at s h)
+reads-own s h l = reads s (half-list s) h (half-at s h) (λ j i. three-at s h j l i)
+
 module _ (a b : Solid) where
   pub reads-A : (h : ℕ) → h < 3 * facets a → Reads a (halves a b) h (half-at a h)
   unfolding halves

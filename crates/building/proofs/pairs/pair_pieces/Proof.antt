@@ -11,12 +11,12 @@ use Rattle.results.specs.Pieces.{pieces}
 use Rattle.joining.proofs.Flat.{behind-none}
 use Rattle.joining.specs.Flat.{flat, Behind}
 use Rattle.building.specs.Table.{table, pair-ends, flip, turn}
-use Rattle.building.proofs.Gather.{turn-pieces, quiet-pieces}
+use Rattle.building.proofs.Gather.{turn-pieces, turn-none, quiet-pieces}
 use Rattle.building.proofs.pairs.pair_pieces.Statement.{statement}
 use Rattle.building.proofs.pairs.pair_pieces.Tie as tie
 
 abbrev start : tie.After-b-end3 → tie.Start
-start c = c .before .before .before .before .before .before .before .before .before .before
+start c = c .before .before .before .before .before .before .before .before .before .before .before .before
 
 -- the six ends, as code has them and as they are defined
 abbrev six : tie.After-b-end3 → List End
@@ -36,6 +36,9 @@ same-six c =
 six-pieces : (c : tie.After-b-end3) → pieces (six c) ≡ turn (start c .args .turn) (pieces (defined (start c)))
 six-pieces c = ap pieces (same-six c) ∙ turn-pieces (start c .args .turn) (defined (start c))
 
+touched-requires : tie.Need-touched-requires
+touched-requires c κs = search needs
+
 add-m : tie.Need-add-m
 add-m c = search needs
 
@@ -44,6 +47,9 @@ mul-a-end c = search needs
 
 a-end-requires : tie.Need-a-end-requires
 a-end-requires c κs = search needs
+
+array-set-from-all : tie.Need-array-set-from-all
+array-set-from-all c = search needs
 
 mul-a-end-2 : tie.Need-mul-a-end-2
 mul-a-end-2 c = search needs
@@ -54,6 +60,9 @@ add-a-end c = search needs
 a-end-requires-2 : tie.Need-a-end-requires-2
 a-end-requires-2 c κs = search needs
 
+array-set-from-all-2 : tie.Need-array-set-from-all-2
+array-set-from-all-2 c = search needs
+
 mul-a-end-3 : tie.Need-mul-a-end-3
 mul-a-end-3 c = search needs
 
@@ -63,54 +72,45 @@ add-a-end-2 c = search needs
 a-end-requires-3 : tie.Need-a-end-requires-3
 a-end-requires-3 c κs = search needs
 
-mul-b-end : tie.Need-mul-b-end
-mul-b-end c = let s = c .before .before .before .before .before .before .before in record { fits = omega (arith, s .pre .0 .0 .halves .sized .fa, s .pre .0 .0 .halves .sized .fb, s .pre .0 .1, s .pre .0 .2) }
-
-b-end-requires : tie.Need-b-end-requires
-b-end-requires c κs = let s = c .before .before .before .before .before .before .before in (s .pre .0 .0, s .pre .0 .1, omega arith, omega (arith, s .pre .0 .2))
-
-mul-b-end-2 : tie.Need-mul-b-end-2
-mul-b-end-2 c = let s = c .before .before .before .before .before .before .before .before in record { fits = omega (arith, s .pre .0 .0 .halves .sized .fa, s .pre .0 .0 .halves .sized .fb, s .pre .0 .1, s .pre .0 .2) }
-
-add-b-end : tie.Need-add-b-end
-add-b-end c = let s = c .before .before .before .before .before .before .before .before in record { fits = omega (arith, s .pre .0 .0 .halves .sized .fa, s .pre .0 .0 .halves .sized .fb, s .pre .0 .1, s .pre .0 .2) }
-
-b-end-requires-2 : tie.Need-b-end-requires-2
-b-end-requires-2 c κs = let s = c .before .before .before .before .before .before .before .before in (s .pre .0 .0, s .pre .0 .1, omega arith, omega (arith, s .pre .0 .2))
-
-mul-b-end-3 : tie.Need-mul-b-end-3
-mul-b-end-3 c = let s = c .before .before .before .before .before .before .before .before .before in record { fits = omega (arith, s .pre .0 .0 .halves .sized .fa, s .pre .0 .0 .halves .sized .fb, s .pre .0 .1, s .pre .0 .2) }
-
-add-b-end-2 : tie.Need-add-b-end-2
-add-b-end-2 c = let s = c .before .before .before .before .before .before .before .before .before in record { fits = omega (arith, s .pre .0 .0 .halves .sized .fa, s .pre .0 .0 .halves .sized .fb, s .pre .0 .1, s .pre .0 .2) }
-
-b-end-requires-3 : tie.Need-b-end-requires-3
-b-end-requires-3 c κs = let s = c .before .before .before .before .before .before .before .before .before in (s .pre .0 .0, s .pre .0 .1, omega arith, omega (arith, s .pre .0 .2))
-
-some-count-requires : tie.Need-some-count-requires
-some-count-requires c κs = search needs
-
-array-set-from-all : tie.Need-array-set-from-all
-array-set-from-all c = search needs
-
-array-set-from-all-2 : tie.Need-array-set-from-all-2
-array-set-from-all-2 c = search needs
-
 array-set-from-all-3 : tie.Need-array-set-from-all-3
 array-set-from-all-3 c = search needs
+
+mul-b-end : tie.Need-mul-b-end
+mul-b-end c = let s = c .before .before .before .before .before .before .before .before .before in record { fits = omega (arith, s .pre .0 .0 .halves .sized .fa, s .pre .0 .0 .halves .sized .fb, s .pre .0 .1, s .pre .0 .2) }
+
+b-end-requires : tie.Need-b-end-requires
+b-end-requires c κs = let s = c .before .before .before .before .before .before .before .before .before in (s .pre .0 .0, s .pre .0 .1, omega arith, omega (arith, s .pre .0 .2))
 
 array-set-from-all-4 : tie.Need-array-set-from-all-4
 array-set-from-all-4 c = search needs
 
+mul-b-end-2 : tie.Need-mul-b-end-2
+mul-b-end-2 c = let s = c .before .before .before .before .before .before .before .before .before .before in record { fits = omega (arith, s .pre .0 .0 .halves .sized .fa, s .pre .0 .0 .halves .sized .fb, s .pre .0 .1, s .pre .0 .2) }
+
+add-b-end : tie.Need-add-b-end
+add-b-end c = let s = c .before .before .before .before .before .before .before .before .before .before in record { fits = omega (arith, s .pre .0 .0 .halves .sized .fa, s .pre .0 .0 .halves .sized .fb, s .pre .0 .1, s .pre .0 .2) }
+
+b-end-requires-2 : tie.Need-b-end-requires-2
+b-end-requires-2 c κs = let s = c .before .before .before .before .before .before .before .before .before .before in (s .pre .0 .0, s .pre .0 .1, omega arith, omega (arith, s .pre .0 .2))
+
 array-set-from-all-5 : tie.Need-array-set-from-all-5
 array-set-from-all-5 c = search needs
+
+mul-b-end-3 : tie.Need-mul-b-end-3
+mul-b-end-3 c = let s = c .before .before .before .before .before .before .before .before .before .before .before in record { fits = omega (arith, s .pre .0 .0 .halves .sized .fa, s .pre .0 .0 .halves .sized .fb, s .pre .0 .1, s .pre .0 .2) }
+
+add-b-end-2 : tie.Need-add-b-end-2
+add-b-end-2 c = let s = c .before .before .before .before .before .before .before .before .before .before .before in record { fits = omega (arith, s .pre .0 .0 .halves .sized .fa, s .pre .0 .0 .halves .sized .fb, s .pre .0 .1, s .pre .0 .2) }
+
+b-end-requires-3 : tie.Need-b-end-requires-3
+b-end-requires-3 c κs = let s = c .before .before .before .before .before .before .before .before .before .before .before in (s .pre .0 .0, s .pre .0 .1, omega arith, omega (arith, s .pre .0 .2))
 
 array-set-from-all-6 : tie.Need-array-set-from-all-6
 array-set-from-all-6 c = search needs
 
 join-at-requires : tie.Need-join-at-requires
 join-at-requires c κs =
-    let d = c .before .before .before in
+    let d = c .before in
     let a = start d .args in
     (omega arith, subst (λ (ps : List Half). a .at + length (flat ps) ≤ length (a .list .now)) (sym (six-pieces d)) (start d .pre .1))
 
@@ -120,43 +120,43 @@ same-length c = search needs
 returns : tie.Need-returns
 returns c =
     let j = c .before .before .join-at in
-    let d = c .before .before .before .before .before .before in
+    let d = c .before .before .before .before in
     let a = start d .args in
     subst (λ (ps : List Half). Behind (flat ps) (a .list .now) (a .at) (j .last .1 .1 .0) (j .result)) (six-pieces d) (j .ensures)
 
 returns-2 : tie.Need-returns-2
 returns-2 c =
-    let d = c .before .before in
-    let a = start d .args in
-    rw (sym (six-pieces d) ∙ quiet-pieces _ (sym (c .before .some-count .ensures) ∙ c .if1 .left)) (behind-none (a .list .now) (a .at))
+    let s = c .before .before .before .before .before in
+    let a = s .args in
+    rw (quiet-pieces (defined s) (sym (c .before .touched .ensures) ∙ c .if1 .left), turn-none (a .turn)) (behind-none (a .list .now) (a .at))
 
 pub pair-pieces-spec : {M : Type 1} → statement M
 pair-pieces-spec =
     tie.close
     (tie.spec
+    touched-requires
     add-m
     mul-a-end
     a-end-requires
+    array-set-from-all
     mul-a-end-2
     add-a-end
     a-end-requires-2
+    array-set-from-all-2
     mul-a-end-3
     add-a-end-2
     a-end-requires-3
+    array-set-from-all-3
     mul-b-end
     b-end-requires
+    array-set-from-all-4
     mul-b-end-2
     add-b-end
     b-end-requires-2
+    array-set-from-all-5
     mul-b-end-3
     add-b-end-2
     b-end-requires-3
-    some-count-requires
-    array-set-from-all
-    array-set-from-all-2
-    array-set-from-all-3
-    array-set-from-all-4
-    array-set-from-all-5
     array-set-from-all-6
     join-at-requires
     same-length
