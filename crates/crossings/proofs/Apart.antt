@@ -1,5 +1,5 @@
--- Where all points of the one thing lie on one side, by x, of all points of the other, the pairing misses: S is the same at each pair of vertices, so
--- that vertex and edge miss, and so does all that is worked out from them.
+-- Where all points of a thing lie on one side of a vertex, by x, the two miss: S is the same at each pair of vertices, so that vertex and edge miss,
+-- and so does what is worked out from them.
 use mathlib.Core.Path.{_≡_, refl, ap}
 use mathlib.Core.Bool.{Bool, true, false, not}
 use mathlib.Core.List.{[], _∷_}
@@ -7,13 +7,13 @@ use Rattle.sums.specs.Lists.{sumOf}
 use Rattle.sums.proofs.Tests.{never}
 use Rattle.points.specs.declared.Point.{Point}
 use Rattle.points.specs.declared.Axis.{Axis}
-use Rattle.points.specs.declared.Axis.the-variants.{X, Y, Z}
+use Rattle.points.specs.declared.Axis.the-variants.{X, Y}
 use Rattle.points.specs.Points.{at-least}
 use Rattle.crossings.specs.declared.Edge.{Edge}
 use Rattle.crossings.specs.declared.Facet.{Facet}
 use Rattle.crossings.specs.declared.Crossing.{Crossing}
 use Rattle.crossings.specs.declared.Crossing.the-variants.{Miss}
-use Rattle.crossings.specs.Crossings.{S, crossing, paired, half, against, ve, ev, vf, fv, ee, ef, fe}
+use Rattle.crossings.specs.Crossings.{S, crossing, paired, half, against, ve, ev, vf, fv}
 
 abbrev pub side : Point → Point → Bool
 side a b = at-least X (record { a = a; b = b })
@@ -29,14 +29,6 @@ agree-not false e = refl
 three : (k : Axis) {c d e : Crossing} → c ≡ Miss → d ≡ Miss → e ≡ Miss → paired k (c ∷ d ∷ e ∷ []) ≡ Miss
 unfolding paired crossing S sumOf
 three k p q r = rw (p, q, r)
-
-four : (k : Axis) {c d e f : Crossing} → c ≡ Miss → d ≡ Miss → e ≡ Miss → f ≡ Miss → paired k (c ∷ d ∷ e ∷ f ∷ []) ≡ Miss
-unfolding paired crossing S sumOf
-four k p q r s = rw (p, q, r, s)
-
-five : (k : Axis) {c d e f g : Crossing} → c ≡ Miss → d ≡ Miss → e ≡ Miss → f ≡ Miss → g ≡ Miss → paired k (c ∷ d ∷ e ∷ f ∷ g ∷ []) ≡ Miss
-unfolding paired crossing S sumOf
-five k p q r s t = rw (p, q, r, s, t)
 
 half-miss : (g : Edge → Crossing) (along : Bool) (p q : Point) → g (edge p q) ≡ Miss → g (edge q p) ≡ Miss → half g along p q ≡ Miss
 half-miss g true p q d e = d
@@ -65,25 +57,3 @@ module _ (t : Bool) where
     where
       of : (along : Bool) (a b : Point) → side a v ≡ t → side b v ≡ t → half (λ h. ev h v) along a b ≡ Miss
       of along a b d e = half-miss (λ h. ev h v) along a b (miss-ev (edge a b) v d e) (miss-ev (edge b a) v e d)
-
-  pub miss-ee : (a b : Edge) → side (a .start) (b .start) ≡ t → side (a .start) (b .end) ≡ t → side (a .end) (b .start) ≡ t → side (a .end) (b .end) ≡ t → ee a b ≡ Miss
-  unfolding ee
-  miss-ee a b ss se es ee′ = four Y (ap against (miss-ve (a .start) b ss se)) (miss-ve (a .end) b es ee′) (ap against (miss-ev a (b .start) ss es)) (miss-ev a (b .end) se ee′)
-
-  pub miss-ef : (e : Edge) (f : Facet) → side (e .start) (f .p) ≡ t → side (e .start) (f .q) ≡ t → side (e .start) (f .r) ≡ t
-      → side (e .end) (f .p) ≡ t → side (e .end) (f .q) ≡ t → side (e .end) (f .r) ≡ t → ef e f ≡ Miss
-  unfolding ef
-  miss-ef e f sp sq sr ep eq er =
-      five Z (miss-vf (e .start) f sp sq sr) (ap against (miss-vf (e .end) f ep eq er)) (of (f .pq) (f .p) (f .q) sp sq ep eq) (of (f .qr) (f .q) (f .r) sq sr eq er) (of (f .rp) (f .r) (f .p) sr sp er ep)
-    where
-      of : (along : Bool) (a b : Point) → side (e .start) a ≡ t → side (e .start) b ≡ t → side (e .end) a ≡ t → side (e .end) b ≡ t → half (λ h. against (ee e h)) along a b ≡ Miss
-      of along a b sa sb ea eb = half-miss (λ h. against (ee e h)) along a b (ap against (miss-ee e (edge a b) sa sb ea eb)) (ap against (miss-ee e (edge b a) sb sa eb ea))
-
-  pub miss-fe : (f : Facet) (e : Edge) → side (f .p) (e .start) ≡ t → side (f .q) (e .start) ≡ t → side (f .r) (e .start) ≡ t
-      → side (f .p) (e .end) ≡ t → side (f .q) (e .end) ≡ t → side (f .r) (e .end) ≡ t → fe f e ≡ Miss
-  unfolding fe
-  miss-fe f e ps qs rs pe qe re =
-      five Z (of (f .pq) (f .p) (f .q) ps qs pe qe) (of (f .qr) (f .q) (f .r) qs rs qe re) (of (f .rp) (f .r) (f .p) rs ps re pe) (ap against (miss-fv f (e .start) ps qs rs)) (miss-fv f (e .end) pe qe re)
-    where
-      of : (along : Bool) (a b : Point) → side a (e .start) ≡ t → side b (e .start) ≡ t → side a (e .end) ≡ t → side b (e .end) ≡ t → half (λ h. against (ee h e)) along a b ≡ Miss
-      of along a b sa sb ea eb = half-miss (λ h. against (ee h e)) along a b (ap against (miss-ee (edge a b) e sa ea sb eb)) (ap against (miss-ee (edge b a) e sb eb sa ea))

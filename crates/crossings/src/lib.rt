@@ -198,7 +198,7 @@ fn gathered_ev(e: Edge, v: Point) -> Crossing
 }
 
 // "X(eA,eB) = S(eA's e,eB) - S(eA's s,eB) + S(eA,eB's e) - S(eA,eB's s)"
-fn gathered_ee(a: Edge, b: Edge) -> Crossing
+pub fn ee(a: Edge, b: Edge) -> Crossing
     ensures { λ r. ⌜ r ≡ C.ee a b ⌝ }
     ensures small { λ r. ⌜ natAbs (C.count r) ≤ 1 ⌝ }
 {
@@ -273,7 +273,7 @@ fn gathered_fv(f: Facet, v: Point) -> Crossing
 }
 
 // "X(eA,fB) = S(s,fB) - S(e,fB) - sum S(eA,h)"
-fn gathered_ef(e: Edge, f: Facet) -> Crossing
+pub fn ef(e: Edge, f: Facet) -> Crossing
     ensures { λ r. ⌜ r ≡ C.ef e f ⌝ }
     ensures small { λ r. ⌜ natAbs (C.count r) ≤ 2 ⌝ }
 {
@@ -287,7 +287,7 @@ fn gathered_ef(e: Edge, f: Facet) -> Crossing
 }
 
 // "X(fA,eB) = S(fA,e) - S(fA,s) - sum S(h,eB)"
-fn gathered_fe(f: Facet, e: Edge) -> Crossing
+pub fn fe(f: Facet, e: Edge) -> Crossing
     ensures { λ r. ⌜ r ≡ C.fe f e ⌝ }
     ensures small { λ r. ⌜ natAbs (C.count r) ≤ 2 ⌝ }
 {
@@ -300,8 +300,8 @@ fn gathered_fe(f: Facet, e: Edge) -> Crossing
     of_b.with(rp).with(qr).with(pq).finish()
 }
 
-// ---- Most pairings miss by x alone: all points of the one thing lie on one side of all points of the other, so that S is the same at each pair of
-// vertices, and what it is worked out from cancels. That is looked at first.
+// ---- Most pairings of a vertex miss by x alone: all points of the other thing lie on one side of it, so that S is the same at each pair of vertices,
+// and what it is worked out from cancels. That is looked at first.
 
 // Is B's point at least A's, by x?
 fn past(a: Point, b: Point) -> bool
@@ -335,16 +335,6 @@ fn ev_apart(e: Edge, v: Point) -> bool
     agree(first, first, past(e.end, v))
 }
 
-fn ee_apart(a: Edge, b: Edge) -> bool
-    ensures { λ r. ⌜ (r ≡ true → C.ee a b ≡ Crossing.Miss) ⌝ }
-{
-    let first = past(a.start, b.start);
-    if agree(first, past(a.start, b.end), past(a.end, b.start)) {
-        return agree(first, first, past(a.end, b.end));
-    }
-    false
-}
-
 fn vf_apart(v: Point, f: Facet) -> bool
     ensures { λ r. ⌜ (r ≡ true → C.vf v f ≡ Crossing.Miss) ⌝ }
 {
@@ -355,30 +345,6 @@ fn fv_apart(f: Facet, v: Point) -> bool
     ensures { λ r. ⌜ (r ≡ true → C.fv f v ≡ Crossing.Miss) ⌝ }
 {
     agree(past(f.p, v), past(f.q, v), past(f.r, v))
-}
-
-fn ef_apart(e: Edge, f: Facet) -> bool
-    ensures { λ r. ⌜ (r ≡ true → C.ef e f ≡ Crossing.Miss) ⌝ }
-{
-    let first = past(e.start, f.p);
-    if agree(first, past(e.start, f.q), past(e.start, f.r)) {
-        if agree(first, past(e.end, f.p), past(e.end, f.q)) {
-            return agree(first, first, past(e.end, f.r));
-        }
-    }
-    false
-}
-
-fn fe_apart(f: Facet, e: Edge) -> bool
-    ensures { λ r. ⌜ (r ≡ true → C.fe f e ≡ Crossing.Miss) ⌝ }
-{
-    let first = past(f.p, e.start);
-    if agree(first, past(f.q, e.start), past(f.r, e.start)) {
-        if agree(first, past(f.p, e.end), past(f.q, e.end)) {
-            return agree(first, first, past(f.r, e.end));
-        }
-    }
-    false
 }
 
 pub fn ve(v: Point, e: Edge) -> Crossing
@@ -401,16 +367,6 @@ pub fn ev(e: Edge, v: Point) -> Crossing
     gathered_ev(e, v)
 }
 
-pub fn ee(a: Edge, b: Edge) -> Crossing
-    ensures { λ r. ⌜ r ≡ C.ee a b ⌝ }
-    ensures small { λ r. ⌜ natAbs (C.count r) ≤ 1 ⌝ }
-{
-    if ee_apart(a, b) {
-        return Crossing::Miss;
-    }
-    gathered_ee(a, b)
-}
-
 pub fn vf(v: Point, f: Facet) -> Crossing
     ensures { λ r. ⌜ r ≡ C.vf v f ⌝ }
     ensures small { λ r. ⌜ natAbs (C.count r) ≤ 1 ⌝ }
@@ -429,24 +385,4 @@ pub fn fv(f: Facet, v: Point) -> Crossing
         return Crossing::Miss;
     }
     gathered_fv(f, v)
-}
-
-pub fn ef(e: Edge, f: Facet) -> Crossing
-    ensures { λ r. ⌜ r ≡ C.ef e f ⌝ }
-    ensures small { λ r. ⌜ natAbs (C.count r) ≤ 2 ⌝ }
-{
-    if ef_apart(e, f) {
-        return Crossing::Miss;
-    }
-    gathered_ef(e, f)
-}
-
-pub fn fe(f: Facet, e: Edge) -> Crossing
-    ensures { λ r. ⌜ r ≡ C.fe f e ⌝ }
-    ensures small { λ r. ⌜ natAbs (C.count r) ≤ 2 ⌝ }
-{
-    if fe_apart(f, e) {
-        return Crossing::Miss;
-    }
-    gathered_fe(f, e)
 }
