@@ -52,7 +52,7 @@ pub fn facet(points: &[f64], corners: &[u32], f: usize) -> Facet
     }
 }
 
-fn facet_s(as_b: bool, v: Point, f: Facet) -> i32
+pub fn facet_s(as_b: bool, v: Point, f: Facet) -> i32
     ensures { λ r. ⌜ r ≡ Ta.facet-S «as_b» v f ⌝ }
     ensures small { λ r. ⌜ natAbs r ≤ 1 ⌝ }
 {

@@ -1,3 +1,1 @@
-pub mod Prepared
-pub mod Results
 pub mod Refused

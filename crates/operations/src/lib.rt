@@ -1,7 +1,4 @@
-// Union, intersection and difference of two solids: document 01's operation.
-mod making;
-mod sides;
-
+// Union, intersection and difference of two solids: document 01's operation. What is made of two admitted ones is in crates/making.
 use building::Sizes;
 use results::Chosen;
 use results::Made;
@@ -114,8 +111,8 @@ fn admitted(
     let mut ae = [0u32; 768];
     let mut be = [0u32; 768];
     let mut halves = [0u32; 4608];
-    let z = sides::both(ap, ac, &mut ae, bp, bc, &mut be, &mut halves);
-    if sides::slots(z) <= 4096 {
+    let z = making::sides::both(ap, ac, &mut ae, bp, bc, &mut be, &mut halves);
+    if making::sides::slots(z) <= 4096 {
         return in_small(
             op,
             z,

@@ -1,16 +1,13 @@
-// What can become a vertex of the result, slot by slot in listing order: its inclusion and its point.
-pub mod inclusions;
+// What can become a vertex of the result, slot by slot in listing order, and its point.
 pub mod places;
 
 use building::Sizes;
 use crossings::Crossing;
 use crossings::Edge;
 ghost use mathlib.Core.Path.{_≡_};
-ghost use Prim.Native.Nat.{_+_, _*_, _/_, _<_, _≤_};
+ghost use Prim.Native.Nat.{_+_, _*_, _/_, _<_};
 ghost use lib.ListN.{length};
-ghost use lib.IntN.{natAbs};
 ghost use Rattle.building.specs.Table as Ta;
-ghost use Rattle.crossings.specs.Crossings as Cr;
 ghost use Rattle.solids.specs.Solids as So;
 ghost use Rattle.solids.specs.Table as Sl;
 ghost use Rattle.results.specs.Inclusion as In;
@@ -73,7 +70,6 @@ pub fn edge_facet(
     requires { ⌜ Wo.Ready (now ap) (now ac) (now ends) × (e < length (So.edges (So.solid (now ap) (now ac)))) ⌝ }
     requires { ⌜ Sl.Named (now bp) (now bc) × (f < length (now bc) / 3) ⌝ }
     ensures { λ r. ⌜ r ≡ In.edge-facet (So.solid (now (ap .entry)) (now (ac .entry))) (So.solid (now (bp .entry)) (now (bc .entry))) (Wo.edge-numbered (So.solid (now (ap .entry)) (now (ac .entry))) e) f ⌝ }
-    ensures small { λ r. ⌜ natAbs (Cr.count r) ≤ 2 ⌝ }
 {
     let edge = edge_at(ap, ends, ac, e);
     let facet = checks::containment::facet(bp, bc, f);
@@ -93,7 +89,6 @@ pub fn facet_edge(
     requires { ⌜ Sl.Named (now ap) (now ac) × (f < length (now ac) / 3) ⌝ }
     requires { ⌜ Wo.Ready (now bp) (now bc) (now ends) × (e < length (So.edges (So.solid (now bp) (now bc)))) ⌝ }
     ensures { λ r. ⌜ r ≡ In.facet-edge (So.solid (now (ap .entry)) (now (ac .entry))) (So.solid (now (bp .entry)) (now (bc .entry))) f (Wo.edge-numbered (So.solid (now (bp .entry)) (now (bc .entry))) e) ⌝ }
-    ensures small { λ r. ⌜ natAbs (Cr.count r) ≤ 2 ⌝ }
 {
     let facet = checks::containment::facet(ap, ac, f);
     let edge = edge_at(bp, ends, bc, e);

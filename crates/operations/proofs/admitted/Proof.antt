@@ -5,7 +5,7 @@ use Rattle.solids.specs.Solids.{solid}
 use Prim.Native.Nat.{ℕ}
 use lib.ListN.{length-replicate}
 use Rattle.building.specs.Table.{Sized}
-use Rattle.operations.proofs.Prepared.{admitted-sized}
+use Rattle.making.proofs.Prepared.{admitted-sized}
 use borrow.Author.Needs.{needs}
 use Rattle.operations.proofs.admitted.Statement.{statement}
 use Rattle.operations.proofs.admitted.Tie as tie

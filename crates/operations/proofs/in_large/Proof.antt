@@ -2,7 +2,7 @@
 use lib.IntN.{pos}
 use Prim.Native.Nat.{ℕ}
 use native.Mathlib.Nat.{le-trans}
-use Rattle.operations.proofs.Prepared.{long-enough}
+use Rattle.shadows.proofs.Tables.{long-enough}
 use borrow.Author.Needs.{needs}
 use Rattle.operations.proofs.in_large.Statement.{statement}
 use Rattle.operations.proofs.in_large.Tie as tie

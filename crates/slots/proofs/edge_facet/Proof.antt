@@ -17,7 +17,7 @@ ef-requires c = search needs
 
 returns : tie.Need-returns
 unfolding edge-facet
-returns c = ((c .ef .ensures .0 ∙ ap₂ ef (c .before .before .edge-at .ensures) (c .before .facet .ensures)), c .ef .ensures .1)
+returns c = c .ef .ensures .0 ∙ ap₂ ef (c .before .before .edge-at .ensures) (c .before .facet .ensures)
 
 pub edge-facet-spec : {M : Type 1} → statement M
 edge-facet-spec = tie.close (tie.spec edge-at-requires facet-requires ef-requires returns)

@@ -17,7 +17,7 @@ fe-requires c = search needs
 
 returns : tie.Need-returns
 unfolding facet-edge
-returns c = ((c .fe .ensures .0 ∙ ap₂ fe (c .before .before .facet .ensures) (c .before .edge-at .ensures)), c .fe .ensures .1)
+returns c = c .fe .ensures .0 ∙ ap₂ fe (c .before .before .facet .ensures) (c .before .edge-at .ensures)
 
 pub facet-edge-spec : {M : Type 1} → statement M
 facet-edge-spec = tie.close (tie.spec facet-requires edge-at-requires fe-requires returns)

@@ -13,7 +13,7 @@ points-requires c κs = search needs
 
 returns : tie.Need-returns
 unfolding place key-of
-returns c = rw (c .before .points .ensures, c .before .before .edge-facet .ensures .0)
+returns c = rw (c .before .points .ensures, c .before .before .edge-facet .ensures)
 
 pub edge-facet-place-spec : {M : Type 1} → statement M
 edge-facet-place-spec = tie.close (tie.spec edge-facet-requires points-requires returns)

@@ -13,7 +13,7 @@ points-requires c κs = search needs
 
 returns : tie.Need-returns
 unfolding place key-of
-returns c = rw (c .before .points .ensures, c .before .before .facet-edge .ensures .0)
+returns c = rw (c .before .points .ensures, c .before .before .facet-edge .ensures)
 
 pub facet-edge-place-spec : {M : Type 1} → statement M
 facet-edge-place-spec = tie.close (tie.spec facet-edge-requires points-requires returns)
