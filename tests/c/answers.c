@@ -2,6 +2,7 @@
    all but `solid`, which is a program's. A lent list that a call changed where it should not have is
    told by a line `changed`, which no expected answer has. */
 #include "../../include/ozoravesh.h"
+#include "blanks.h"
 #include <stdio.h>
 #include <stdlib.h>
 #include <string.h>
@@ -51,8 +52,8 @@ static list room(size_t length, size_t size) {
     if (length > 0) {
         l.now = malloc(length * size);
         l.before = malloc(length * size);
-        memset(l.now, 0x5a, length * size);
-        memset(l.before, 0x5a, length * size);
+        fill_with_blanks(l.now, length * size);
+        fill_with_blanks(l.before, length * size);
     }
     return l;
 }

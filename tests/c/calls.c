@@ -1,7 +1,9 @@
 /* Calls every function of include/ozoravesh.h: the samples of document 01 that speak of calls,
    lists of length 0 with a null pointer, blanks, and rooms that are too short by one. Lent lists
-   are filled with a mark before each call, so that what a call leaves alone is seen. */
+   are filled with blanks of several patterns before each call, and what a call leaves alone is
+   compared byte by byte. */
 #include "../../include/ozoravesh.h"
+#include "blanks.h"
 #include <stdio.h>
 #include <string.h>
 
@@ -44,17 +46,17 @@ static uint32_t origins[300];
 static uint8_t bytes[8000];
 
 static void mark(void) {
-    memset(points, 0x5a, sizeof points);
-    memset(corners, 0x5a, sizeof corners);
-    memset(origins, 0x5a, sizeof origins);
-    memset(bytes, 0x5a, sizeof bytes);
+    fill_with_blanks(points, sizeof points);
+    fill_with_blanks(corners, sizeof corners);
+    fill_with_blanks(origins, sizeof origins);
+    fill_with_blanks(bytes, sizeof bytes);
 }
 
-/* Is the mark still there from byte `from` on? */
+/* Are the blanks still there, bit for bit, from byte `from` on? */
 static int marked(const void *list, size_t size, size_t from) {
     const uint8_t *b = list;
     for (size_t i = from; i < size; i++) {
-        if (b[i] != 0x5a) {
+        if (b[i] != ((const uint8_t *)BLANKS)[i % sizeof BLANKS]) {
             return 0;
         }
     }
@@ -255,6 +257,71 @@ static void program(void) {
     EXPECT(makes(ozoravesh_program(input, 166), 7, 0, 0));
 }
 
+/* Every call with each pattern of a blank where it reads, one at a time and all at once, and blanks where it
+   writes: refused by 3, and no list differs afterwards, neither those that are written nor those that are read. */
+static void blanks_stay(const double *p, const uint32_t *f, uint8_t *file) {
+    double before[12];
+    uint32_t corners_before[12];
+    uint8_t file_before[162];
+
+    memcpy(before, p, sizeof before);
+    memcpy(corners_before, f, sizeof corners_before);
+    memcpy(file_before, file, sizeof file_before);
+    mark();
+    EXPECT(ozoravesh_admit(p, 12, f, 12) == 3);
+    EXPECT(counts(ozoravesh_count_as_a(2, 1, 0.5, p, 12, f, 12), 3, 0));
+    EXPECT(counts(ozoravesh_count_as_b(2, 1, 0.5, p, 12, f, 12), 3, 0));
+    EXPECT(counts(ozoravesh_count_as_a(p[3], p[4], p[5], T, 12, F, 12), 3, 0));
+    EXPECT(counts(ozoravesh_count_as_b(p[3], p[4], p[5], T, 12, F, 12), 3, 0));
+    for (uint32_t code = 0; code < 3; code++) {
+        EXPECT(makes(ozoravesh_operate(code, p, 12, f, 12, T, 12, F, 12, points, 400, corners, 800, origins, 300), 3, 0, 0));
+        EXPECT(makes(ozoravesh_operate(code, T, 12, F, 12, p, 12, f, 12, points, 400, corners, 800, origins, 300), 3, 0, 0));
+    }
+    EXPECT(fills(ozoravesh_write(p, 12, f, 12, bytes, 8000), 3, 0));
+    EXPECT(is_read(ozoravesh_read(file, 162, points, 400, corners, 800), 3, 0, 0, 0));
+    EXPECT(kept(0, 0, 0, 0));
+    EXPECT(memcmp(before, p, sizeof before) == 0 && memcmp(corners_before, f, sizeof corners_before) == 0);
+    EXPECT(memcmp(file_before, file, sizeof file_before) == 0);
+}
+
+static void blanks(void) {
+    double p[12];
+    uint8_t file[162];
+    uint8_t input[165];
+    uint8_t input_before[165];
+    uint32_t a[12];
+    uint32_t b[12];
+
+    for (size_t k = 0; k < 8; k++) {
+        memcpy(p, T, sizeof p);
+        EXPECT(fills(ozoravesh_write(T, 12, F, 12, file, 162), 0, 162));
+        /* The second vertex's flow: behind 26 bytes, a mark and a head. */
+        memcpy(p + 4, BLANKS + k, sizeof p[0]);
+        memcpy(file + 36, BLANKS + k, sizeof p[0]);
+        blanks_stay(p, F, file);
+
+        memcpy(input, "D", 1);
+        memcpy(input + 1, file, sizeof file);
+        memcpy(input + 163, "EN", 2);
+        memcpy(input_before, input, sizeof input);
+        EXPECT(makes(ozoravesh_program(input, 165), 3, 0, 0));
+        EXPECT(memcmp(input, input_before, sizeof input) == 0);
+    }
+    fill_with_blanks(p, sizeof p);
+    blanks_stay(p, F, file);
+
+    /* A corner is any number: what is shown is copied as it is, and nothing else is touched. */
+    fill_with_blanks(a, sizeof a);
+    fill_with_blanks(b, sizeof b);
+    mark();
+    EXPECT(fills(ozoravesh_shown(a, 12, b, 12, 5, corners, 2), 8, 0));
+    EXPECT(fills(ozoravesh_shown(a, 12, b, 12, 8, corners, 800), 0, 0));
+    EXPECT(kept(0, 0, 0, 0));
+    EXPECT(fills(ozoravesh_shown(a, 12, b, 12, 5, corners, 800), 0, 3));
+    EXPECT(memcmp(corners, b + 3, 3 * sizeof b[0]) == 0 && kept(0, 3, 0, 0));
+    EXPECT(marked(a, sizeof a, 0) && marked(b, sizeof b, 0));
+}
+
 int main(void) {
     admission();
     containment();
@@ -262,6 +329,7 @@ int main(void) {
     files();
     operations();
     program();
+    blanks();
     if (failed != 0) {
         printf("calls: %d of %d do not hold\n", failed, checks);
         return 1;
