@@ -32,10 +32,10 @@ unique =
       count-as-b = λ v s r q d e. same d e;
       admit = λ s r q d e. same d e;
       admit-point = λ v r q d e. same d e;
-      shown = λ ac bc origin r q d e. same d e;
+      shown = λ a b origin r q d e. same d e;
       read = λ bs ps cs r q d e. ap of-reading (same d e);
       write = λ s bs r q d e. ap of-writing (same d e);
-      outcome = λ input r q d e. same d e;
-      printed-text = λ input r q d e. same (d .0) (e .0);
-      shown-copied = λ ac bc origin lent r q d e. ap of-writing (same d e);
+      program = λ input r q d e. same d e;
+      printed = λ input r q d e. same d e;
+      shown-copied = λ a b origin lent r q d e. ap of-writing (same d e);
     }

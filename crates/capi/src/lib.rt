@@ -4,15 +4,13 @@ use housefile::Written;
 use points::Point;
 use results::Made;
 use solids::Counted;
-ghost use mathlib.Core.Path.{_≡_};
 ghost use Rattle.solids.specs.Solids as So;
 ghost use Rattle.solids.specs.Admission as Ad;
-ghost use Rattle.solids.specs.Refusals as Re;
 ghost use Rattle.solids.specs.Containment as Co;
 ghost use Rattle.results.specs.Operation as Op;
+ghost use Rattle.results.specs.Origin as Or;
 ghost use Rattle.housefile.specs.Reader as Rd;
 ghost use Rattle.housefile.specs.Writer as Wr;
-ghost use Rattle.line.specs.Line as Li;
 ghost use Rattle.programs.specs.Answers as An;
 ghost use Rattle.capi.specs.Shown as Sh;
 
@@ -28,7 +26,7 @@ pub extern "C" fn ozoravesh_operate(
     corners: &mut [u32],
     origins: &mut [u32],
 ) -> Made
-    ensures { λ r. ⌜ Op.called r (Op.lists (now (points .exit)) (now (corners .exit)) (now (origins .exit))) ≡ Op.operation code (So.solid (now (ap .entry)) (now (ac .entry))) (So.solid (now (bp .entry)) (now (bc .entry))) (Op.lists (now (points .entry)) (now (corners .entry)) (now (origins .entry))) ⌝ }
+    ensures { λ r. ⌜ Op.Operate code (So.solid (now (ap .entry)) (now (ac .entry))) (So.solid (now (bp .entry)) (now (bc .entry))) (Op.lists (now (points .entry)) (now (corners .entry)) (now (origins .entry))) (r, Op.lists (now (points .exit)) (now (corners .exit)) (now (origins .exit))) ⌝ }
 {
     operations::operate(code, ap, ac, bp, bc, points, corners, origins)
 }
@@ -36,7 +34,7 @@ pub extern "C" fn ozoravesh_operate(
 // The answer of a solid's admission.
 #[no_mangle]
 pub extern "C" fn ozoravesh_admit(points: &[f64], corners: &[u32]) -> u32
-    ensures { λ r. ⌜ r ≡ Re.answer (Ad.admission (So.solid (now (points .entry)) (now (corners .entry)))) ⌝ }
+    ensures { λ r. ⌜ Ad.Admit (So.solid (now (points .entry)) (now (corners .entry))) r ⌝ }
 {
     checks::admission::admit(points, corners)
 }
@@ -50,7 +48,7 @@ pub extern "C" fn ozoravesh_count_as_a(
     points: &[f64],
     corners: &[u32],
 ) -> Counted
-    ensures { λ r. ⌜ r ≡ Co.count-as-A (record { x = x; y = y; z = z }) (So.solid (now (points .entry)) (now (corners .entry))) ⌝ }
+    ensures { λ r. ⌜ Co.CountAsA (record { x = x; y = y; z = z }) (So.solid (now (points .entry)) (now (corners .entry))) r ⌝ }
 {
     checks::containment::count_as_a(Point { x, y, z }, points, corners)
 }
@@ -64,7 +62,7 @@ pub extern "C" fn ozoravesh_count_as_b(
     points: &[f64],
     corners: &[u32],
 ) -> Counted
-    ensures { λ r. ⌜ r ≡ Co.count-as-B (record { x = x; y = y; z = z }) (So.solid (now (points .entry)) (now (corners .entry))) ⌝ }
+    ensures { λ r. ⌜ Co.CountAsB (record { x = x; y = y; z = z }) (So.solid (now (points .entry)) (now (corners .entry))) r ⌝ }
 {
     checks::containment::count_as_b(Point { x, y, z }, points, corners)
 }
@@ -77,7 +75,7 @@ pub extern "C" fn ozoravesh_shown<'a>(
     origin: usize,
     part: &mut [u32],
 ) -> Written
-    ensures { λ r. ⌜ Wr.outcome r (now (part .exit)) ≡ Sh.show (now (ac .entry)) (now (bc .entry)) origin (now (part .entry)) ⌝ }
+    ensures { λ r. ⌜ Sh.ShownCopied (Or.standing (ac .entry .ptr) (now (ac .entry))) (Or.standing (bc .entry .ptr) (now (bc .entry))) origin (now (part .entry)) (r, now (part .exit)) ⌝ }
 {
     let found = origins::shown(ac, bc, origin);
     if part.len() < found.len() {
@@ -93,7 +91,7 @@ pub extern "C" fn ozoravesh_shown<'a>(
 // A house file's solid, in the fronts of two lent lists.
 #[no_mangle]
 pub extern "C" fn ozoravesh_read(bytes: &[u8], points: &mut [f64], corners: &mut [u32]) -> Read
-    ensures { λ r. ⌜ Rd.outcome r (now (points .exit)) (now (corners .exit)) ≡ Rd.read (now (bytes .entry)) (now (points .entry)) (now (corners .entry)) ⌝ }
+    ensures { λ r. ⌜ Rd.ReadFile (now (bytes .entry)) (now (points .entry)) (now (corners .entry)) (r, (now (points .exit), now (corners .exit))) ⌝ }
 {
     files::reader::read(bytes, points, corners)
 }
@@ -101,7 +99,7 @@ pub extern "C" fn ozoravesh_read(bytes: &[u8], points: &mut [f64], corners: &mut
 // A solid's house file, in the front of lent bytes.
 #[no_mangle]
 pub extern "C" fn ozoravesh_write(points: &[f64], corners: &[u32], bytes: &mut [u8]) -> Written
-    ensures { λ r. ⌜ Wr.outcome r (now (bytes .exit)) ≡ Wr.write (So.solid (now (points .entry)) (now (corners .entry))) (now (bytes .entry)) ⌝ }
+    ensures { λ r. ⌜ Wr.WriteFile (So.solid (now (points .entry)) (now (corners .entry))) (now (bytes .entry)) (r, now (bytes .exit)) ⌝ }
 {
     files::writer::write(points, corners, bytes)
 }
@@ -109,7 +107,7 @@ pub extern "C" fn ozoravesh_write(points: &[f64], corners: &[u32], bytes: &mut [
 // The three numbers that the program `solid` prints for this input.
 #[no_mangle]
 pub extern "C" fn ozoravesh_program(input: &[u8]) -> Made
-    ensures { λ r. ⌜ r ≡ An.made (Li.program (now (input .entry))) ⌝ }
+    ensures { λ r. ⌜ An.Program (now (input .entry)) r ⌝ }
 {
     programs::outcome(input)
 }

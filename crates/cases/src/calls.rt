@@ -110,7 +110,7 @@ pub fn write(out: &mut Lines, points: &[f64], corners: &[u32], bytes: &mut [u8])
 pub fn solid(out: &mut Lines, bytes: &[u8]) {
     let line = programs::printed(bytes);
     let text = line.bytes;
-    let length = line.length;
-    let at = output::text(out, 0, &text[..length]);
+    let used = line.used;
+    let at = output::text(out, 0, &text[..used]);
     output::stop(out, at);
 }

@@ -1,5 +1,6 @@
 // The checks 1 to 6 on one solid, in document 01's order.
 use crate::table;
+use crate::vertices;
 use points::Point;
 ghost use mathlib.Core.Path.{_≡_};
 ghost use mathlib.Core.List.{[]};
@@ -7,9 +8,9 @@ ghost use Prim.Native.Nat.{_+_, _*_, _/_, _%_, _<_, _≤_};
 ghost use lib.ListN.{length};
 ghost use lib.Ieee.{isNan};
 ghost use Rattle.sums.specs.Lists.{any, upTo};
+ghost use Rattle.points.specs.Points.{coordinates};
 ghost use Rattle.solids.specs.Solids as So;
 ghost use Rattle.solids.specs.Admission as Ad;
-ghost use Rattle.solids.specs.Refusals as Re;
 ghost use Rattle.solids.specs.Table as Ta;
 
 // A NaN, and nothing else, differs from itself.
@@ -32,12 +33,26 @@ fn bad(blanks: bool, x: f64) -> bool
     if blanks { blank(x) } else { beyond(x) }
 }
 
+fn bad_point(blanks: bool, v: Point) -> bool
+    ensures { λ r. ⌜ r ≡ any (Ta.bad blanks) (coordinates v) ⌝ }
+{
+    if bad(blanks, v.x) {
+        true
+    } else if bad(blanks, v.y) {
+        true
+    } else {
+        bad(blanks, v.z)
+    }
+}
+
+// Vertex by vertex; of whole threes no coordinate is left out.
 fn some_bad(blanks: bool, points: &[f64]) -> bool
+    requires { ⌜ length (now points) % 3 ≡ 0 ⌝ }
     ensures { λ r. ⌜ r ≡ any (Ta.bad blanks) (now (points .entry)) ⌝ }
 {
     let mut i = 0;
-    while i < points.len() {
-        if bad(blanks, points[i]) {
+    while i < points.len() / 3 {
+        if bad_point(blanks, vertices::vertex(points, i)) {
             return true;
         }
         i += 1;
@@ -113,7 +128,7 @@ fn unmatched(corners: &[u32]) -> bool
 
 // The answer of admission: 0, or the number of the first check that refuses.
 pub fn admit(points: &[f64], corners: &[u32]) -> u32
-    ensures { λ r. ⌜ r ≡ Re.answer (Ad.admission (So.solid (now (points .entry)) (now (corners .entry)))) ⌝ }
+    ensures { λ r. ⌜ Ad.Admit (So.solid (now (points .entry)) (now (corners .entry))) r ⌝ }
 {
     if points.len() % 3 != 0 {
         return 1;
@@ -141,11 +156,10 @@ pub fn admit(points: &[f64], corners: &[u32]) -> u32
 
 // The answer of a point's admission, by 3 and 4.
 pub fn admit_point(v: Point) -> u32
-    ensures { λ r. ⌜ r ≡ Re.answer (Ad.point-admission v) ⌝ }
+    ensures { λ r. ⌜ Ad.AdmitPoint v r ⌝ }
 {
-    let list = [v.x, v.y, v.z];
-    if some_bad(true, &list) {
+    if bad_point(true, v) {
         return 3;
     }
-    if some_bad(false, &list) { 4 } else { 0 }
+    if bad_point(false, v) { 4 } else { 0 }
 }

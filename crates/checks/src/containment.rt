@@ -1,5 +1,6 @@
 // How often a solid contains a point, with the solid as A and as B.
 use crate::admission;
+use crate::vertices;
 use crossings::Facet;
 use points::Axis;
 use points::Point;
@@ -16,23 +17,12 @@ ghost use Rattle.solids.specs.Refusals as Re;
 ghost use Rattle.solids.specs.Containment as Co;
 ghost use Rattle.solids.specs.Table as Ta;
 
-pub fn vertex(points: &[f64], i: usize) -> Point
-    requires { ⌜ i < length (now points) / 3 ⌝ }
-    ensures { λ r. ⌜ r ≡ So.vertex (So.solid (now (points .entry)) []) i ⌝ }
-{
-    Point {
-        x: points[3 * i],
-        y: points[3 * i + 1],
-        z: points[3 * i + 2],
-    }
-}
-
 fn corner(points: &[f64], corners: &[u32], i: usize) -> Point
     requires { ⌜ (i < length (now corners)) × Ta.Named (now points) (now corners) ⌝ }
     ensures { λ r. ⌜ r ≡ So.vertex (So.solid (now (points .entry)) []) (getD (now (corners .entry)) i 0) ⌝ }
 {
     let number = corners[i] as usize;
-    vertex(points, number)
+    vertices::vertex(points, number)
 }
 
 pub fn facet(points: &[f64], corners: &[u32], f: usize) -> Facet
@@ -114,13 +104,13 @@ fn count_as(as_b: bool, v: Point, points: &[f64], corners: &[u32]) -> Counted
 }
 
 pub fn count_as_a(v: Point, points: &[f64], corners: &[u32]) -> Counted
-    ensures { λ r. ⌜ r ≡ Co.count-as-A v (So.solid (now (points .entry)) (now (corners .entry))) ⌝ }
+    ensures { λ r. ⌜ Co.CountAsA v (So.solid (now (points .entry)) (now (corners .entry))) r ⌝ }
 {
     count_as(false, v, points, corners)
 }
 
 pub fn count_as_b(v: Point, points: &[f64], corners: &[u32]) -> Counted
-    ensures { λ r. ⌜ r ≡ Co.count-as-B v (So.solid (now (points .entry)) (now (corners .entry))) ⌝ }
+    ensures { λ r. ⌜ Co.CountAsB v (So.solid (now (points .entry)) (now (corners .entry))) r ⌝ }
 {
     count_as(true, v, points, corners)
 }

@@ -3,3 +3,4 @@
 pub mod admission;
 pub mod containment;
 pub mod table;
+pub mod vertices;

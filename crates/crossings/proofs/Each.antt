@@ -1,13 +1,15 @@
 -- What holds of each lower pairing of a pairing. K is any predicate that a crossing turned against keeps, so the signs of the formulas and the
 -- directions of half-edges play no part; R is a predicate on points, by which a facet's half-edges are told from other edges.
-use mathlib.Core.Bool.{Bool, true, false}
-use mathlib.Core.List.{[], _∷_}
+use mathlib.Core.Bool.{Bool, true, false, cond}
+use mathlib.Core.List.{List, [], _∷_}
 use Rattle.sums.proofs.Sums.{All, all-++}
 use Rattle.points.specs.declared.Point.{Point}
+use Rattle.points.specs.declared.Axis.{Axis}
 use Rattle.crossings.specs.declared.Edge.{Edge}
 use Rattle.crossings.specs.declared.Facet.{Facet}
 use Rattle.crossings.specs.declared.Crossing.{Crossing}
-use Rattle.crossings.specs.Crossings.{against, half, halves, vv, ve, ev, vf, fv, ee, lower-ve, lower-ev, lower-vf, lower-fv, lower-ee, lower-ef, lower-fe}
+use Rattle.crossings.specs.declared.Crossing.the-variants.{Miss}
+use Rattle.crossings.specs.Crossings.{against, lies, first, half, halves, vv, ve, ev, vf, fv, ee, lower-ve, lower-ev, lower-vf, lower-fv, lower-ee, lower-ef, lower-fe}
 
 -- a thing lies in R if its corners do
 abbrev pub InEdge : (Point → Type 0) → Edge → Type 0
@@ -15,6 +17,16 @@ InEdge R e = R (e .start) × R (e .end)
 
 abbrev pub InFacet : (Point → Type 0) → Facet → Type 0
 InFacet R f = R (f .p) × R (f .q) × R (f .r)
+
+-- what holds of a miss and of each of a list holds of plus and of minus
+pub each-first : (K : Crossing → Type 0) → K Miss → (k : Axis) (side : Bool) (cs : List Crossing) → All K cs → K (first k side cs)
+unfolding first
+each-first K miss k side [] h = miss
+each-first K miss k side (c ∷ cs) h = go (lies k side c) (each-first K miss k side cs (h .1))
+  where
+    go : (b : Bool) → K (first k side cs) → K (cond b c (first k side cs))
+    go true r = h .0
+    go false r = r
 
 module _ (K : Crossing → Type 0) (turn : (c : Crossing) → K c → K (against c)) where
   module _ (R : Point → Type 0) (f : Facet) (r : InFacet R f) where

@@ -1,9 +1,9 @@
 -- A crossing's points keep what its things keep: where the hold does not leave P, and all corners of A's thing lie in P, A's point lies in P;
--- and B's likewise. Nothing is asked of the origin, which stands where there is no crossing: by Theorem 1 no point is ever taken from there.
+-- and B's likewise. Nothing is asked of the zero point, which stands where there is no crossing: by Theorem 1 no point is ever taken from there.
 use mathlib.Core.Path.{_≡_, refl, sym, ap, _∙_}
 use mathlib.Core.Logic.{_≢_}
 use mathlib.Core.Bool.{Bool, true, false, cond, false≢true}
-use mathlib.Core.List.{List, [], _∷_}
+use mathlib.Core.List.{List}
 use lib.IntN.{pos}
 use Rattle.sums.specs.Lists.{sumOf, nonzero}
 use Rattle.sums.proofs.Sums.{All}
@@ -17,7 +17,7 @@ use Rattle.crossings.specs.declared.Facet.{Facet}
 use Rattle.crossings.specs.declared.Crossing.{Crossing}
 use Rattle.crossings.specs.declared.Crossing.the-variants.{Miss, Cross}
 use Rattle.crossings.specs.Crossings.{count, points, S, against, lies, first, crossing, paired, ve, ev, vf, fv, ee, ef, fe, lower-ve, lower-ev, lower-vf, lower-fv, lower-ee, lower-ef, lower-fe}
-use Rattle.crossings.proofs.Each.{InEdge, InFacet, each-ve, each-ev, each-vf, each-fv, each-ee, each-ef, each-fe}
+use Rattle.crossings.proofs.Each.{InEdge, InFacet, each-first, each-ve, each-ev, each-vf, each-fv, each-ee, each-ef, each-fe}
 use Rattle.crossings.proofs.Lower.{Both, both-of-sum, zero-ve, zero-ev, zero-vf, zero-fv, zero-ee, zero-ef, zero-fe}
 
 -- ---- A's point lies in P and B's in Q, if it is a crossing
@@ -29,15 +29,6 @@ module _ (P Q : Point → Type 0) where
   pub keeps-against : (c : Crossing) → Keeps P Q c → Keeps P Q (against c)
   keeps-against Miss h = tt
   keeps-against (Cross n w) h = h
-
-  keeps-first : (k : Axis) (side : Bool) (cs : List Crossing) → All (Keeps P Q) cs → Keeps P Q (first k side cs)
-  unfolding first
-  keeps-first k side [] h = tt
-  keeps-first k side (c ∷ cs) h = go (lies k side c) (keeps-first k side cs (h .1))
-    where
-      go : (b : Bool) → Keeps P Q (first k side cs) → Keeps P Q (cond b c (first k side cs))
-      go true r = h .0
-      go false r = r
 
   -- what lies on a side is no miss
   keeps-points : (k : Axis) (side : Bool) (c : Crossing) → lies k side c ≡ true → Keeps P Q c → PairIn P Q (points c)
@@ -52,8 +43,8 @@ module _ (P Q : Point → Type 0) where
 module _ (P Q : Point → Type 0) (held-P : Held P) (held-Q : Held Q) where
   keeps-placed : (k : Axis) (cs : List Crossing) → Both k cs → All (Keeps P Q) cs → PairIn P Q (placed k (points (first k true cs)) (points (first k false cs)))
   keeps-placed k cs b h =
-      placed-in P Q held-P held-Q _ _ (keeps-points P Q k true (first k true cs) (b .plus) (keeps-first P Q k true cs h))
-      (keeps-points P Q k false (first k false cs) (b .minus) (keeps-first P Q k false cs h)) k
+      placed-in P Q held-P held-Q _ _ (keeps-points P Q k true (first k true cs) (b .plus) (each-first (Keeps P Q) tt k true cs h))
+      (keeps-points P Q k false (first k false cs) (b .minus) (each-first (Keeps P Q) tt k false cs h)) k
 
   pub keeps-paired : (k : Axis) (cs : List Crossing) → sumOf count cs ≡ pos 0 → All (Keeps P Q) cs → Keeps P Q (paired k cs)
   unfolding paired crossing

@@ -3,6 +3,7 @@ pub mod Table
 pub mod Lower
 pub mod Facets
 pub mod Each
+pub mod Real
 pub mod Kept
 pub mod Sizes
 pub mod Fits

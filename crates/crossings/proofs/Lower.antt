@@ -18,7 +18,7 @@ use Rattle.crossings.specs.declared.Edge.{Edge}
 use Rattle.crossings.specs.declared.Facet.{Facet}
 use Rattle.crossings.specs.declared.Crossing.{Crossing}
 use Rattle.crossings.specs.declared.Crossing.the-variants.{Miss, Cross}
-use Rattle.crossings.specs.Crossings.{count, S, lies, first, paired, vv, ve, ev, vf, fv, ee, ef, fe, lower-ve, lower-ev, lower-vf, lower-fv, lower-ee, lower-ef, lower-fe}
+use Rattle.crossings.specs.Crossings.{count, S, lies, first, paired, vv, ve, ev, ee, lower-ve, lower-ev, lower-vf, lower-fv, lower-ee, lower-ef, lower-fe}
 use Rattle.crossings.proofs.Corners.{facet-at, round, round-ext, round-ends, round-ends-turned, round-but-ends, corner, along, one, two, three}
 use Rattle.crossings.proofs.Table.{count-paired, count-against, table-vf, table-fv, table-ee, table-ef, table-fe, count-ve, count-ev, count-vf, count-fv, count-ee}
 
@@ -125,32 +125,3 @@ zero-ef e f = zero-ef-at (corner f) (along f) one two three e
 
 pub zero-fe : (f : Facet) (e : Edge) → sumOf count (lower-fe f e) ≡ pos 0
 zero-fe f e = zero-fe-at (corner f) (along f) one two three e
-
--- ---- so both are there
-pub both-ve : (v : Point) (e : Edge) → count (ve v e) ≢ pos 0 → Both X (lower-ve v e)
-unfolding ve
-both-ve v e = both-paired X (lower-ve v e) (zero-ve v e)
-
-pub both-ev : (e : Edge) (v : Point) → count (ev e v) ≢ pos 0 → Both X (lower-ev e v)
-unfolding ev
-both-ev e v = both-paired X (lower-ev e v) (zero-ev e v)
-
-pub both-vf : (v : Point) (f : Facet) → count (vf v f) ≢ pos 0 → Both Y (lower-vf v f)
-unfolding vf
-both-vf v f = both-paired Y (lower-vf v f) (zero-vf v f)
-
-pub both-fv : (f : Facet) (v : Point) → count (fv f v) ≢ pos 0 → Both Y (lower-fv f v)
-unfolding fv
-both-fv f v = both-paired Y (lower-fv f v) (zero-fv f v)
-
-pub both-ee : (a b : Edge) → count (ee a b) ≢ pos 0 → Both Y (lower-ee a b)
-unfolding ee
-both-ee a b = both-paired Y (lower-ee a b) (zero-ee a b)
-
-pub both-ef : (e : Edge) (f : Facet) → count (ef e f) ≢ pos 0 → Both Z (lower-ef e f)
-unfolding ef
-both-ef e f = both-paired Z (lower-ef e f) (zero-ef e f)
-
-pub both-fe : (f : Facet) (e : Edge) → count (fe f e) ≢ pos 0 → Both Z (lower-fe f e)
-unfolding fe
-both-fe f e = both-paired Z (lower-fe f e) (zero-fe f e)

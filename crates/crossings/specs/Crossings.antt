@@ -8,7 +8,7 @@ use Rattle.points.specs.declared.Point.{Point}
 use Rattle.points.specs.declared.PointPair.{PointPair}
 use Rattle.points.specs.declared.Axis.{Axis}
 use Rattle.points.specs.declared.Axis.the-variants.{X, Y, Z}
-use Rattle.points.specs.Points.{at-least, placed, origins}
+use Rattle.points.specs.Points.{at-least, placed, zero-pair}
 use Rattle.crossings.specs.declared.Edge.{Edge}
 use Rattle.crossings.specs.declared.Facet.{Facet}
 use Rattle.crossings.specs.declared.Crossing.{Crossing}
@@ -21,7 +21,7 @@ count Miss = pos 0
 count (Cross n w) = n
 
 abbrev pub points : Crossing → PointPair
-points Miss = origins
+points Miss = zero-pair
 points (Cross n w) = w
 
 -- "S equals X if X is not 0 and B's coordinate at the pair of points is at least A's; otherwise S is 0."

@@ -187,7 +187,7 @@ fn hand_over(
 
 // The checks 9, 2, 8, then 3 to 6; the lent lists stay as they are before all have passed.
 pub fn read(bytes: &[u8], points: &mut [f64], corners: &mut [u32]) -> Read
-    ensures { λ r. ⌜ Re.outcome r (now (points .exit)) (now (corners .exit)) ≡ Re.read (now (bytes .entry)) (now (points .entry)) (now (corners .entry)) ⌝ }
+    ensures { λ r. ⌜ Re.ReadFile (now (bytes .entry)) (now (points .entry)) (now (corners .entry)) (r, (now (points .exit), now (corners .exit))) ⌝ }
 {
     let mut kept_points = [0.0f64; 384];
     let mut kept_corners = [0u32; 768];

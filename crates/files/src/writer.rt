@@ -1,7 +1,7 @@
 // The writer: a solid's file put into lent bytes.
 use crate::coding;
 use checks::admission;
-use checks::containment;
+use checks::vertices;
 use housefile::Written;
 ghost use mathlib.Core.Path.{_≡_};
 ghost use mathlib.Core.Bool.{false};
@@ -12,7 +12,6 @@ ghost use lib.Seq.{sets};
 ghost use lib.Ieee.{isNan};
 ghost use Rattle.sums.specs.Lists.{any};
 ghost use Rattle.solids.specs.Solids as So;
-ghost use Rattle.housefile.specs.Records as Rc;
 ghost use Rattle.housefile.specs.Writer as Wr;
 ghost use Rattle.files.specs.Walking as Wa;
 
@@ -22,7 +21,7 @@ fn put_vertices(points: &[f64], bytes: &mut [u8])
 {
     let mut i = 0;
     while i < points.len() / 3 {
-        coding::put_vertex(containment::vertex(points, i), bytes, 26 * i);
+        coding::put_vertex(vertices::vertex(points, i), bytes, 26 * i);
         i += 1;
     }
 }
@@ -46,7 +45,7 @@ fn put_facets(corners: &[u32], bytes: &mut [u8], at: usize)
 
 // The checks 1 to 6, then 8; nothing is written before all have passed.
 pub fn write(points: &[f64], corners: &[u32], bytes: &mut [u8]) -> Written
-    ensures { λ r. ⌜ Wr.outcome r (now (bytes .exit)) ≡ Wr.write (So.solid (now (points .entry)) (now (corners .entry))) (now (bytes .entry)) ⌝ }
+    ensures { λ r. ⌜ Wr.WriteFile (So.solid (now (points .entry)) (now (corners .entry))) (now (bytes .entry)) (r, now (bytes .exit)) ⌝ }
 {
     let answer = admission::admit(points, corners);
     if answer != 0 {

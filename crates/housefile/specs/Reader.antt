@@ -1,5 +1,6 @@
 -- Document 01, "House file": the layout of a file, and the reader with its refusals and the lent lists afterwards.
 use Prim.Native.Nat.{ℕ, zero, suc, _+_}
+use mathlib.Core.Path.{_≡_}
 use mathlib.Core.Bool.{Bool, true, false, _||_}
 use mathlib.Core.List.{List, [], _∷_, _++_}
 use lib.ListN.{length, drop}
@@ -85,3 +86,7 @@ by-layout (laid used xs ds) ps cs =
 -- the call: a file's bytes and the two lent lists
 unfoldable pub read : List ℕ → List Float → List ℕ → Reading
 read bs ps cs = by-layout (layout bs) ps cs
+
+-- what the call promises of its answer and of the two lent lists as they then are
+abbrev pub ReadFile : List ℕ → List Float → List ℕ → Read × (List Float × List ℕ) → Type 0
+ReadFile bs ps cs r = outcome (r .0) (r .1 .0) (r .1 .1) ≡ read bs ps cs

@@ -1,5 +1,6 @@
 -- Document 01, "House file": the writer with its refusals and the lent bytes afterwards.
 use Prim.Native.Nat.{ℕ}
+use mathlib.Core.Path.{_≡_}
 use mathlib.Core.List.{List, [], _∷_, _++_, flatMap}
 use lib.ListN.{length}
 use lib.Dec.{ltb}
@@ -36,3 +37,7 @@ writing (refused n) new old = unwritten n old
 -- "The writer checks 1 to 6, then 8."
 unfoldable pub write : Solid → List ℕ → Writing
 write s lent = let new = file s in writing (in-order (admission s ∷ given 8 (ltb (length lent) (length new)) ∷ [])) new lent
+
+-- what the call promises of its answer and of the lent bytes as they then are
+abbrev pub WriteFile : Solid → List ℕ → Written × List ℕ → Type 0
+WriteFile s bs r = outcome (r .0) (r .1) ≡ write s bs

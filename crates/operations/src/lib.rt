@@ -179,7 +179,7 @@ pub fn operate(
     corners: &mut [u32],
     origins: &mut [u32],
 ) -> Made
-    ensures { λ r. ⌜ Op.called r (Op.lists (now (points .exit)) (now (corners .exit)) (now (origins .exit))) ≡ Op.operation code (So.solid (now (ap .entry)) (now (ac .entry))) (So.solid (now (bp .entry)) (now (bc .entry))) (Op.lists (now (points .entry)) (now (corners .entry)) (now (origins .entry))) ⌝ }
+    ensures { λ r. ⌜ Op.Operate code (So.solid (now (ap .entry)) (now (ac .entry))) (So.solid (now (bp .entry)) (now (bc .entry))) (Op.lists (now (points .entry)) (now (corners .entry)) (now (origins .entry))) (r, Op.lists (now (points .exit)) (now (corners .exit)) (now (origins .exit))) ⌝ }
 {
     match Operation::of_code(code) {
         Chosen::Known(op) => checked(op, ap, ac, bp, bc, points, corners, origins),

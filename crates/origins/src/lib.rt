@@ -1,10 +1,9 @@
 // What an origin shows: the facet's part of A's or of B's own corner list.
-ghost use mathlib.Core.Path.{_≡_};
 ghost use Rattle.results.specs.Origin as Or;
 
 // "an origin beyond both (facet counts rounded down) shows the empty front of A's"
 pub fn shown<'a>(a: &'a [u32], b: &'a [u32], origin: usize) -> &'a [u32]
-    ensures { λ r. ⌜ now r ≡ Or.shown (now (a .entry)) (now (b .entry)) origin ⌝ }
+    ensures { λ r. ⌜ Or.Shown (Or.standing (a .entry .ptr) (now (a .entry))) (Or.standing (b .entry .ptr) (now (b .entry))) origin (Or.standing (r .ptr) (now r)) ⌝ }
 {
     let of_a = a.len() / 3;
     let of_b = b.len() / 3;

@@ -56,8 +56,8 @@ placed k plus minus = pair-at (share (gap k plus) (gap k minus)) plus minus
 abbrev pub zero-number : Float
 zero-number = fin false 0 (pos 0)
 
-abbrev pub origin : Point
-origin = record { x = zero-number; y = zero-number; z = zero-number }
+abbrev pub zero-point : Point
+zero-point = record { x = zero-number; y = zero-number; z = zero-number }
 
-abbrev pub origins : PointPair
-origins = record { a = origin; b = origin }
+abbrev pub zero-pair : PointPair
+zero-pair = record { a = zero-point; b = zero-point }

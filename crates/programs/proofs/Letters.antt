@@ -4,7 +4,7 @@ use mathlib.Core.List.{List, [], _∷_}
 use Prim.Native.Nat.{ℕ, zero, suc, _≤_, _<_}
 use native.Mathlib.Omega.{arith}
 use lib.ListN.{length, getD, drop}
-use borrow.Author.Tests.{lt-ltb, le-ltb}
+use borrow.Author.Tests.{le-ltb}
 use Rattle.results.specs.declared.Operation.{Operation}
 use Rattle.results.specs.declared.Operation.the-variants.{Union, Intersection, Difference}
 use Rattle.results.specs.declared.Chosen.the-variants.{Known, Unknown}
@@ -27,13 +27,9 @@ known (suc (suc zero)) h = (Difference, refl)
 known (suc (suc (suc n))) h = absurd (omega arith)
 
 -- ---- the length
-module _ (op : Operation) (bs : List ℕ) where
-  pub too-long : 32767 < length bs → by-letter (Known op) bs ≡ refusal 9 room
-  too-long h = rw (by-letter, lt-ltb 32768 (suc (length bs)) (omega arith))
-
-  pub not-long : length bs ≤ 32767 → by-letter (Known op) bs ≡ of-bytes op bs
-  unfolding of-bytes
-  not-long h = rw (by-letter, le-ltb 32768 (suc (length bs)) (omega arith))
+pub not-long : (op : Operation) (bs : List ℕ) → length bs ≤ 32767 → by-letter (Known op) bs ≡ of-bytes op bs
+unfolding of-bytes
+not-long op bs h = rw (by-letter, le-ltb 32768 (suc (length bs)) (omega arith))
 
 -- ---- the first byte
 pub no-letter : (bs : List ℕ) → length bs ≡ 0 → program bs ≡ refusal 9 room

@@ -1,11 +1,12 @@
 -- What the public calls answer: the three numbers of an outcome, and a text.
 use mathlib.Core.Path.{_≡_}
 use mathlib.Core.List.{List}
-use Prim.Native.Nat.{ℕ, _≤_}
-use lib.ListN.{length, take, replicate}
+use Prim.Native.Nat.{ℕ}
+use lib.ListN.{length, replicate}
 use Rattle.sums.specs.Lists.{onto}
 use Rattle.results.specs.declared.Made.{Made}
 use Rattle.results.specs.Operation.{Outcome}
+use Rattle.line.specs.Line.{program, printed}
 use Rattle.programs.specs.declared.Text.{Text}
 
 -- the three numbers of an outcome
@@ -14,11 +15,12 @@ made o = record { answer = o .answer; vertices = o .vertices; triangles = o .tri
 
 -- a text that says l: the front of its bytes; behind it are zeros
 abbrev pub text : List ℕ → Text
-text l = record { bytes = onto l (replicate 64 0); length = length l }
+text l = record { bytes = onto l (replicate 64 0); used = length l }
 
-abbrev pub said : Text → List ℕ
-said t = take (t .length) (t .bytes)
+-- ---- what `outcome` and `printed` promise of their answer to an input
 
--- all of it is there. The second part follows from the first; with both, `&bytes[..length]` needs no proof of its own
-abbrev pub Whole : Text → Type 0
-Whole t = (t .length ≤ length (t .bytes)) × (t .length ≡ length (said t))
+abbrev pub Program : List ℕ → Made → Type 0
+Program input r = r ≡ made (program input)
+
+abbrev pub Printed : List ℕ → Text → Type 0
+Printed input r = r ≡ text (printed input)

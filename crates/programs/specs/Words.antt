@@ -1,9 +1,10 @@
--- Words of contracts between functions of this crate; no public statement needs them. What the fronts of two walks' lists come to.
+-- Words of contracts between functions of this crate; no public statement needs them. What the fronts of two walks' lists come to, and a text
+-- with more behind it.
 use mathlib.Core.Path.{_≡_}
 use mathlib.Core.Bool.{cond}
-use mathlib.Core.List.{List, [], _∷_}
-use Prim.Native.Nat.{ℕ, _*_}
-use lib.ListN.{length, take, drop}
+use mathlib.Core.List.{List, [], _∷_, _++_}
+use Prim.Native.Nat.{ℕ, _+_, _*_}
+use lib.ListN.{length, take}
 use lib.Ieee.{Float}
 use Rattle.solids.specs.Refusals.{Verdict, accepted, refused, in-order}
 use Rattle.solids.specs.Solids.{Solid, solid}
@@ -13,8 +14,9 @@ use Rattle.results.specs.Operation.{Outcome, refusal, operation}
 use Rattle.housefile.specs.Reader.{layout}
 use Rattle.files.specs.declared.Walk.{Walk}
 use Rattle.files.specs.Walking.{many}
-use Rattle.programs.specs.declared.Text.{Text}
 use Rattle.line.specs.Line.{room, behind, of-files}
+use Rattle.programs.specs.declared.Text.{Text}
+use Rattle.programs.specs.Answers.{text}
 
 -- a file's solid, in the fronts of what a walk kept
 abbrev pub front : Walk → List Float → List ℕ → Solid
@@ -39,6 +41,7 @@ of-bytes op bs = let first = layout bs in of-files op first (layout (behind firs
 
 -- ---- texts
 
--- behind the later text, the bytes are those of the earlier one
-abbrev pub Same-behind : Text → Text → Type 0
-Same-behind t r = drop (r .length) (r .bytes) ≡ drop (r .length) (t .bytes)
+-- r says what t says, and l behind it
+pub record Then (t : Text) (l : List ℕ) (r : Text) : Type 0 where
+  pub longer : r .used ≡ t .used + length l
+  pub says : (before : List ℕ) → t ≡ text before → r ≡ text (before ++ l)

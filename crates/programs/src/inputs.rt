@@ -107,7 +107,7 @@ fn of_bytes(code: u32, bytes: &[u8]) -> Made
     if second.fault {
         return refused(9);
     }
-    if used + second.used != bytes.len() {
+    if used + second.used < bytes.len() {
         return refused(9);
     }
     of_walks(code, first, &ap, &ac, second, &bp, &bc)

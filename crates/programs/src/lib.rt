@@ -3,19 +3,17 @@ mod inputs;
 mod numbers;
 
 use results::Made;
-ghost use mathlib.Core.Path.{_≡_};
-ghost use Rattle.line.specs.Line as Li;
 ghost use Rattle.programs.specs.Answers as An;
 
-// A text is the front of its bytes, which have room for a line of three numbers of any size; behind it are zeros.
+// A text is the first `used` of its bytes, which have room for a line of three numbers of any size; behind it are zeros.
 pub struct Text {
     pub bytes: [u8; 64],
-    pub length: usize,
+    pub used: usize,
 }
 
 // The three numbers that the program prints.
 pub fn outcome(input: &[u8]) -> Made
-    ensures { λ r. ⌜ r ≡ An.made (Li.program (now (input .entry))) ⌝ }
+    ensures { λ r. ⌜ An.Program (now (input .entry)) r ⌝ }
 {
     if input.len() == 0 {
         return inputs::refused(9);
@@ -25,7 +23,7 @@ pub fn outcome(input: &[u8]) -> Made
 
 // The line that the program prints.
 pub fn printed(input: &[u8]) -> Text
-    ensures { λ r. ⌜ (r ≡ An.text (Li.printed (now (input .entry)))) × An.Whole r ⌝ }
+    ensures { λ r. ⌜ An.Printed (now (input .entry)) r ⌝ }
 {
     numbers::line_of(outcome(input))
 }

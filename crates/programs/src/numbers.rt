@@ -2,7 +2,7 @@
 use crate::Text;
 use results::Made;
 ghost use mathlib.Core.Path.{_≡_};
-ghost use mathlib.Core.List.{[], _∷_, _++_};
+ghost use mathlib.Core.List.{[], _∷_};
 ghost use Prim.Native.Nat.{_+_, _<_, _≤_};
 ghost use lib.ListN.{length};
 ghost use Rattle.results.specs.Operation as Op;
@@ -11,12 +11,12 @@ ghost use Rattle.programs.specs.Answers as An;
 ghost use Rattle.programs.specs.Words as Wo;
 
 fn put_byte(mut t: Text, byte: u8) -> Text
-    requires { ⌜ t .length < 64 ⌝ }
-    ensures { λ r. ⌜ (An.said r ≡ An.said t ++ (byte ∷ [])) × (r .length ≡ t .length + 1) × An.Whole r × Wo.Same-behind t r ⌝ }
+    requires { ⌜ t .used < 64 ⌝ }
+    ensures { λ r. ⌜ Wo.Then t (byte ∷ []) r ⌝ }
 {
-    let at = t.length;
+    let at = t.used;
     t.bytes[at] = byte;
-    t.length = at + 1;
+    t.used = at + 1;
     t
 }
 
@@ -29,8 +29,8 @@ fn digit(n: usize) -> u8
 }
 
 fn put_number(t: Text, n: usize) -> Text
-    requires { ⌜ t .length + length (Li.digits n) ≤ 64 ⌝ }
-    ensures { λ r. ⌜ (An.said r ≡ An.said t ++ Li.digits n) × (r .length ≡ t .length + length (Li.digits n)) × Wo.Same-behind t r ⌝ }
+    requires { ⌜ t .used + length (Li.digits n) ≤ 64 ⌝ }
+    ensures { λ r. ⌜ Wo.Then t (Li.digits n) r ⌝ }
 {
     if n < 10 {
         return put_byte(t, digit(n));
@@ -41,11 +41,11 @@ fn put_number(t: Text, n: usize) -> Text
 
 // "answer, vertices, triangles, separated by one blank"
 pub fn line_of(made: Made) -> Text
-    ensures { λ r. ⌜ (r ≡ An.text (Li.line (Op.called made Li.room))) × An.Whole r ⌝ }
+    ensures { λ r. ⌜ r ≡ An.text (Li.line (Op.called made Li.room)) ⌝ }
 {
     let empty = Text {
         bytes: [0; 64],
-        length: 0,
+        used: 0,
     };
     let answer = put_number(empty, made.answer as usize);
     let first = put_byte(answer, b' ');

@@ -1,5 +1,6 @@
 -- Document 01: the call that makes a union, an intersection or a difference, with its refusals and the lent lists afterwards.
 use Prim.Native.Nat.{ℕ, _/_}
+use mathlib.Core.Path.{_≡_}
 use mathlib.Core.Bool.{Bool, _||_}
 use mathlib.Core.List.{List, [], _∷_}
 use lib.ListN.{length}
@@ -70,3 +71,7 @@ by-choice Unknown a b l = refusal 7 l
 
 unfoldable pub operation : ℕ → Solid → Solid → Lent → Outcome
 operation code a b l = by-choice (chosen code) a b l
+
+-- what the call promises of its answer and of the lent lists as they then are
+abbrev pub Operate : ℕ → Solid → Solid → Lent → Made × Lent → Type 0
+Operate code a b l r = called (r .0) (r .1) ≡ operation code a b l

@@ -1,5 +1,5 @@
--- DEMAND 3: of the result of any operation on any two admitted solids. The parts are proved over the definitions, in the crates that have them; here
--- they are carried to the result's lists and collected.
+-- DEMAND 3, whole. The parts on the result of an operation are proved over the definitions, in the crates that have them; here they are carried to the
+-- result's lists and collected.
 use mathlib.Core.Path.{_≡_, refl, sym, ap, subst, _∙_}
 use mathlib.Core.List.{List, _∷_, [], flatMap}
 use Prim.Native.Nat.{ℕ, _≤_, _<_, _/_, _%_}
@@ -25,7 +25,8 @@ use Rattle.results.proofs.Adding.{Shut, inclusion-adds}
 use Rattle.results.proofs.Closed.{triangles-closed}
 use Rattle.results.proofs.Corners.{vertex-count, triangles-proper}
 use Rattle.results.proofs.Limit.{result-near}
-use Rattle.robust.specs.Robust.{solid-of, ThreeCorners, Robust}
+use Rattle.robust.specs.Robust.{solid-of, ThreeCorners, RobustResult, Robust}
+use Rattle.robust.proofs.Lower.{lower-points}
 use Rattle.robust.proofs.AddUp.{ends-add-up}
 
 shut : (s : Solid) → Passed s → Shut s
@@ -88,8 +89,9 @@ module _ (op : Operation) (a b : Solid) (passed-a : Passed a) (passed-b : Passed
         closed = closed;
       })
 
-pub robust : (code : ℕ) (op : Operation) → chosen code ≡ Known op → (a b : Solid) → admission a ≡ accepted → admission b ≡ accepted → Robust code op a b
-robust code op known a b ok-a ok-b =
+robust-result : (code : ℕ) (op : Operation) → chosen code ≡ Known op → (a b : Solid) → admission a ≡ accepted → admission b ≡ accepted
+    → RobustResult code op a b
+robust-result code op known a b ok-a ok-b =
     let pa = passed a ok-a in
     let pb = passed b ok-b in
     record {
@@ -103,3 +105,6 @@ robust code op known a b ok-a ok-b =
       admitted = again op a b pa pb;
       ends = λ e m. ends-add-up a b e;
     }
+
+pub robust : Robust
+robust = record { lower-points = lower-points; of-result = robust-result }

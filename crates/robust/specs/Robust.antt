@@ -1,4 +1,4 @@
--- Demand 3, of the result that `operation` defines, for any two admitted solids and any operation, with room.
+-- Demand 3: of every crossing, and of the result that `operation` defines, for any two admitted solids and any operation, with room.
 use mathlib.Core.Path.{_≡_}
 use mathlib.Core.Logic.{_≢_}
 use mathlib.Core.Bool.{false}
@@ -12,10 +12,12 @@ use Rattle.solids.specs.Solids.{Solid, Half, vertices, facets, corner, half-edg
 use Rattle.solids.specs.Admission.{beyond, admission}
 use Rattle.results.specs.declared.Operation.{Operation}
 use Rattle.results.specs.declared.Operation.the-variants.{Intersection, Difference}
-use Rattle.results.specs.Inclusion.{Key, vA, eAfB, fAeB, vB, inclusion}
+use Rattle.results.specs.declared.Chosen.the-variants.{Known}
+use Rattle.results.specs.Inclusion.{Key, vA, eAfB, fAeB, vB, chosen, inclusion}
 use Rattle.results.specs.Pieces.{SignedEnd, ends-of-eA}
 use Rattle.results.specs.Triangles.{Result, result}
 use Rattle.results.specs.Operation.{Lent, too-short, success, operation}
+use Rattle.robust.specs.LowerPoints.{LowerPoints}
 
 -- a result as a solid: its origins set aside
 abbrev pub solid-of : Result → Solid
@@ -46,7 +48,8 @@ own (eAfB e f) = pos 0
 own (fAeB f e) = pos 0
 own (vB i) = pos 0
 
-pub record Robust (code : ℕ) (op : Operation) (a b : Solid) : Type 0 where
+-- of the result of an operation on A and B
+pub record RobustResult (code : ℕ) (op : Operation) (a b : Solid) : Type 0 where
   -- it is the result that the call gives, with room
   pub given : (l : Lent) → too-short l (result op a b) ≡ false → operation code a b l ≡ success (result op a b) l
   -- "each step P→Q in the result is met by as many Q→P"
@@ -62,3 +65,10 @@ pub record Robust (code : ℕ) (op : Operation) (a b : Solid) : Type 0 where
   pub ends :
       (e : Half) → List·Memᴰ e (edges a)
       → AddUp (ends-of-eA (inclusion Difference a b) b e) (ends-of-eA (inclusion Intersection a b) b e) (ends-of-eA own b e)
+
+-- the whole of demand 3
+pub record Robust : Type 0 where
+  pub lower-points : LowerPoints
+  -- "For any two admitted solids and any operation"
+  pub of-result :
+      (code : ℕ) (op : Operation) → chosen code ≡ Known op → (a b : Solid) → admission a ≡ accepted → admission b ≡ accepted → RobustResult code op a b

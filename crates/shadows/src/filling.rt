@@ -41,7 +41,7 @@ fn vertex_edge(
     ensures { λ r. ⌜ r ≡ Wo.S-at Level.VertexEdge «as_b» (So.solid (now (own .entry)) []) (So.solid (now (points .entry)) (now (corners .entry))) i e ⌝ }
     ensures small { λ r. ⌜ natAbs r ≤ 1 ⌝ }
 {
-    let v = checks::containment::vertex(own, i);
+    let v = checks::vertices::vertex(own, i);
     edge_s(as_b, v, slots::edge_at(points, ends, corners, e))
 }
 
@@ -65,7 +65,7 @@ fn vertex_facet(
     if reading::around(below, 384 * i, 1, halves, f) == 0 {
         return 0;
     }
-    let v = checks::containment::vertex(own, i);
+    let v = checks::vertices::vertex(own, i);
     let facet = checks::containment::facet(points, corners, f);
     checks::containment::facet_s(as_b, v, facet)
 }

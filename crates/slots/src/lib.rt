@@ -52,8 +52,8 @@ pub fn edge_at(points: &[f64], ends: &[u32; 768], corners: &[u32], e: usize) -> 
     let start = ends[2 * e] as usize;
     let end = ends[2 * e + 1] as usize;
     Edge {
-        start: checks::containment::vertex(points, start),
-        end: checks::containment::vertex(points, end),
+        start: checks::vertices::vertex(points, start),
+        end: checks::vertices::vertex(points, end),
     }
 }
 

@@ -3,11 +3,11 @@ use crate::Slot;
 use building::Sizes;
 use points::Point;
 ghost use mathlib.Core.Path.{_≡_};
-ghost use mathlib.Core.List.{[], _∷_};
 ghost use Prim.Native.Nat.{_+_, _*_, _/_, _<_, _≤_};
 ghost use lib.ListN.{length};
 ghost use lib.Seq.{sets};
 ghost use Rattle.sums.specs.Lists.{keep, nonzero, onto};
+ghost use Rattle.points.specs.Points.{coordinates};
 ghost use Rattle.building.specs.Table as Ta;
 ghost use Rattle.solids.specs.Solids as So;
 ghost use Rattle.solids.specs.Table as Sl;
@@ -66,24 +66,24 @@ pub fn place_at(
     ensures { λ r. ⌜ r ≡ In.place (So.solid (now (ap .entry)) (now (ac .entry))) (So.solid (now (bp .entry)) (now (bc .entry))) (Wo.key-of (So.solid (now (ap .entry)) (now (ac .entry))) (So.solid (now (bp .entry)) (now (bc .entry))) slot) ⌝ }
 {
     match slot {
-        Slot::VertexA(i) => checks::containment::vertex(ap, i),
+        Slot::VertexA(i) => checks::vertices::vertex(ap, i),
         Slot::EdgeFacet(e, f) => edge_facet_place(ap, ac, ae, e, bp, bc, f),
         Slot::FacetEdge(f, e) => facet_edge_place(ap, ac, f, bp, bc, be, e),
-        Slot::VertexB(i) => checks::containment::vertex(bp, i),
+        Slot::VertexB(i) => checks::vertices::vertex(bp, i),
     }
 }
 
-fn put_three(x: f64, y: f64, z: f64, list: &mut [f64], at: usize)
+fn put_point(v: Point, list: &mut [f64], at: usize)
     requires { ⌜ at + 3 ≤ length (now list) ⌝ }
-    ensures { λ r. ⌜ now (list .exit) ≡ sets (now (list .entry)) at (x ∷ y ∷ z ∷ []) ⌝ }
+    ensures { λ r. ⌜ now (list .exit) ≡ sets (now (list .entry)) at (coordinates v) ⌝ }
 {
-    list[at] = x;
-    list[at + 1] = y;
-    list[at + 2] = z;
+    list[at] = v.x;
+    list[at + 1] = v.y;
+    list[at + 2] = v.z;
 }
 
 // Slot k's point, behind the first `at` numbers of the list.
-fn put_point(
+fn put_slot(
     k: usize,
     z: Sizes,
     ap: &[f64],
@@ -102,7 +102,7 @@ fn put_point(
 {
     let slot = crate::slot_at(z, k);
     let v = place_at(slot, ap, ac, ae, bp, bc, be);
-    put_three(v.x, v.y, v.z, list, at);
+    put_point(v, list, at);
 }
 
 // Nothing is worked out for a slot that is left out.
@@ -127,7 +127,7 @@ pub fn put_points(
     while k < inc.len() {
         let c = inc[k];
         if c != 0 {
-            put_point(k, z, ap, ac, ae, bp, bc, be, points, at);
+            put_slot(k, z, ap, ac, ae, bp, bc, be, points, at);
             at += 3;
         }
         k += 1;

@@ -85,7 +85,7 @@ module _ (s : Solid) where
       let r = or-false (not (eqb (length (s .points) % 3) 0)) (not (eqb (length (s .corners) % 3) 0)) e in
       (eqb-true _ _ (not-false _ (r .0)), eqb-true _ _ (not-false _ (r .1)))
 
-  even-back : length (s .points) % 3 ≡ 0 → length (s .corners) % 3 ≡ 0 → uneven s ≡ false
+  pub even-back : length (s .points) % 3 ≡ 0 → length (s .corners) % 3 ≡ 0 → uneven s ≡ false
   unfolding uneven
   even-back a b = rw (a, b)
 
@@ -93,7 +93,7 @@ module _ (s : Solid) where
   unfolding too-many
   few e = let r = or-false (ltb 128 (vertices s)) (ltb 256 (facets s)) e in (ltb-false _ _ (r .0), ltb-false _ _ (r .1))
 
-  few-back : vertices s ≤ 128 → facets s ≤ 256 → too-many s ≡ false
+  pub few-back : vertices s ≤ 128 → facets s ≤ 256 → too-many s ≡ false
   unfolding too-many
   few-back a b = rw (le-ltb 128 (vertices s) a, le-ltb 256 (facets s) b)
 

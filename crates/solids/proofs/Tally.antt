@@ -3,7 +3,7 @@ use mathlib.Core.Path.{_≡_, refl, sym, ap, _∙_}
 use mathlib.Core.Logic.{_≢_}
 use mathlib.Core.Bool.{Bool, true, false}
 use mathlib.Core.List.{List, [], _∷_, _++_, flatMap}
-use Prim.Native.Nat.{ℕ, zero, suc, _+_, _*_, _<_, _≤_, _/_}
+use Prim.Native.Nat.{ℕ, zero, suc, _+_, _*_, _<_, _≤_, _/_, _%_}
 use native.Mathlib.Omega.{arith}
 use native.Mathlib.Nat.{add-zero}
 use native.Mathlib.Numerals.{add-one}
@@ -61,8 +61,11 @@ times-le h (k ∷ hs) = go (same-half h k) (times-le h hs)
     go true i = omega arith
     go false i = omega arith
 
-pub tallied-few : (table : List ℕ) (hs : List Half) (h : Half) → h .0 < 128 → h .1 < 128 → Tallied table hs → getD table (place h) 0 ≤ length hs
-tallied-few table hs h a b t = rw (t .at h a b) (times-le h hs)
+pub tallied-few : (table : List ℕ) (hs : List Half) (i : ℕ) → i < 16384 → Tallied table hs → getD table i 0 ≤ length hs
+tallied-few table hs i l t =
+    let h : Half = (i / 128, i % 128) in
+    let e : i ≡ place h = omega arith in
+    rw (e, t .at h (omega arith) (omega arith)) (times-le h hs)
 
 -- ---- facet by facet
 pub counted-next : (corners : List ℕ) (f : ℕ) → counted corners (f + 1) ≡ counted corners f ++ facet-half-edges (solid [] corners) f

@@ -1,5 +1,6 @@
 -- Document 01, "Solids and admission": the checks on one solid, by number, and those on a point.
 use Prim.Native.Nat.{ℕ, _%_}
+use mathlib.Core.Path.{_≡_}
 use mathlib.Core.Bool.{Bool, false, not, _||_}
 use mathlib.Core.List.{List, [], _∷_}
 use lib.ListN.{length}
@@ -9,7 +10,7 @@ use lib.Ieee.{Float, fin, lt, neg, isNan}
 use Rattle.sums.specs.Lists.{upTo, any, turned}
 use Rattle.points.specs.declared.Point.{Point}
 use Rattle.points.specs.Points.{coordinates}
-use Rattle.solids.specs.Refusals.{Verdict, given, in-order}
+use Rattle.solids.specs.Refusals.{Verdict, answer, given, in-order}
 use Rattle.solids.specs.Solids.{Solid, Half, vertices, facets, corner, half-edges, number-of, pairs}
 
 -- 1: "a list's length is not a multiple of three"
@@ -69,6 +70,14 @@ unfoldable pub admission : Solid → Verdict
 admission s =
     in-order (check-lengths s ∷ check-sizes s ∷ check-blanks (s .points) ∷ check-limit (s .points) ∷ check-corners s ∷ check-closure s ∷ [])
 
+-- what the call promises of its answer r
+abbrev pub Admit : Solid → ℕ → Type 0
+Admit s r = r ≡ answer (admission s)
+
 -- "A point count checks the point by 3 and 4"
 unfoldable pub point-admission : Point → Verdict
 point-admission v = in-order (check-blanks (coordinates v) ∷ check-limit (coordinates v) ∷ [])
+
+-- what the call promises of its answer r
+abbrev pub AdmitPoint : Point → ℕ → Type 0
+AdmitPoint v r = r ≡ answer (point-admission v)

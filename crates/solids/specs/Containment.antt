@@ -1,4 +1,5 @@
 -- Document 01, "Crossing counts": how often a solid contains a point, and the two calls that count it.
+use mathlib.Core.Path.{_≡_}
 use mathlib.Core.List.{[], _∷_}
 use lib.IntN.{ℤ, pos, negℤ}
 use Rattle.sums.specs.Lists.{upTo, sumOf}
@@ -29,3 +30,10 @@ count-as-A v s = counted (in-order (point-admission v ∷ admission s ∷ [])) (
 
 unfoldable pub count-as-B : Point → Solid → Counted
 count-as-B v s = counted (in-order (point-admission v ∷ admission s ∷ [])) (in-B v s)
+
+-- what each call promises of its answer r
+abbrev pub CountAsA : Point → Solid → Counted → Type 0
+CountAsA v s r = r ≡ count-as-A v s
+
+abbrev pub CountAsB : Point → Solid → Counted → Type 0
+CountAsB v s r = r ≡ count-as-B v s

@@ -1,13 +1,13 @@
--- Searches: what a loop that looks for the first that passes a test knows at each turn, over a list and over the numbers below n.
+-- Searches: what finds one that passes a test in a list, and what a loop that looks for the first knows at each turn, over the numbers below n.
 use mathlib.Core.Path.{_≡_, refl, ap, _∙_}
 use mathlib.Core.Bool.{Bool, true, false, _||_}
 use mathlib.Core.List.{List, [], _∷_, _++_, flatMap}
-use Prim.Native.Nat.{ℕ, zero, suc, _+_, _<_, _≤_}
+use Prim.Native.Nat.{ℕ, zero, suc, _+_, _<_}
 use native.Mathlib.Omega.{arith}
 use native.Mathlib.Numerals.{add-one}
-use lib.ListN.{length, take, getD}
+use lib.ListN.{length, getD}
 use Rattle.sums.specs.Lists.{any, upTo}
-use Rattle.sums.proofs.Tests.{true-any, or-false}
+use Rattle.sums.proofs.Tests.{true-any}
 use Rattle.sums.proofs.UpTo.{mem-upTo}
 
 module _ {A : Type 0} (p : A → Bool) where
@@ -20,16 +20,6 @@ module _ {A : Type 0} (p : A → Bool) where
       regroup true b c = refl
       regroup false b c = refl
 
-  -- a list, seen up to place i
-  pub any-next : (l : List A) (i : ℕ) (d : A) → i < length l → any p (take i l) ≡ false → p (getD l i d) ≡ false → any p (take (i + 1) l) ≡ false
-  unfolding any
-  any-next l i d h e f = rw (add-one i) (go l i h e f)
-    where
-      go : (l : List A) (i : ℕ) → i < length l → any p (take i l) ≡ false → p (getD l i d) ≡ false → any p (take (suc i) l) ≡ false
-      go [] i h e f = absurd (omega arith)
-      go (x ∷ l) zero h e f = rw f
-      go (x ∷ l) (suc i) h e f = let r = or-false (p x) (any p (take i l)) e in rw (r .0) (go l i (omega arith) (r .1) f)
-
   pub any-found : (l : List A) (i : ℕ) (d : A) → i < length l → p (getD l i d) ≡ true → any p l ≡ true
   unfolding any
   any-found [] i d h e = absurd (omega arith)
@@ -39,12 +29,6 @@ module _ {A : Type 0} (p : A → Bool) where
       go : (b : Bool) → any p l ≡ true → b || any p l ≡ true
       go true r = refl
       go false r = r
-
-  pub any-none : (l : List A) (i : ℕ) → length l ≤ i → any p (take i l) ≡ false → any p l ≡ false
-  unfolding any
-  any-none [] i h e = refl
-  any-none (x ∷ l) zero h e = absurd (omega arith)
-  any-none (x ∷ l) (suc i) h e = let r = or-false (p x) (any p (take i l)) e in rw (r .0) (any-none l i (omega arith) (r .1))
 
 -- through lists put together from lists
 pub any-flatMap : {A B : Type 0} (p : B → Bool) (g : A → List B) (l : List A) → any p (flatMap g l) ≡ any (λ x. any p (g x)) l

@@ -7,7 +7,8 @@ use Prim.Native.Nat.{ℕ, zero, suc, _+_, _*_, _/_, _%_, _<_}
 use native.Mathlib.Omega.{arith}
 use lib.ListN.{length, getD}
 use lib.IntN.{ℤ}
-use Rattle.sums.specs.Lists.{upTo, sumOf, every}
+use Rattle.sums.specs.Lists.{upTo, sumOf, every, any}
+use Rattle.sums.proofs.Searches.{any-flatMap}
 use Rattle.sums.proofs.Sums.{All, all-map-of, all-of-map, map-ext, flat-map, sum-map}
 use Rattle.sums.proofs.Tests.{every-map}
 use Rattle.sums.proofs.UpTo.{upTo-first}
@@ -121,3 +122,18 @@ module _ {A B : Type 0} (f g h : B → A) where
         → All (λ i. P (getD (threes ts) (first i) d) (getD (threes ts) (3 * i + 1) d) (getD (threes ts) (3 * i + 2) d)) (upTo (length (threes ts) / 3))
         → All (λ t. P (f t) (g t) (h t)) ts
     threes-all P a = all-of-map (of-three P) three ts (subst (All (of-three P)) all-in-turn (all-map-of (of-three P) at numbers a))
+
+-- a test over a list of whole threes, three by three
+pub any-threes : {A : Type 0} (p : A → Bool) (l : List A) (d : A) → length l % 3 ≡ 0
+    → any p l ≡ any (λ i. any p (getD l (3 * i + 0) d ∷ getD l (3 * i + 1) d ∷ getD l (3 * i + 2) d ∷ [])) (upTo (length l / 3))
+unfolding flatMap
+any-threes {A} p l d e = ap (any p) (sym whole) ∙ any-flatMap p (at l) (upTo (length l / 3))
+  where
+    at : List A → ℕ → List A
+    at k i = getD k (3 * i + 0) d ∷ getD k (3 * i + 1) d ∷ getD k (3 * i + 2) d ∷ []
+
+    whole : flatMap (at l) (upTo (length l / 3)) ≡ l
+    whole =
+        let (ts, r) = in-threes (λ (t : A × A × A). t .0) (λ t. t .1) (λ t. t .2) (λ a b c. (a, b, c)) (λ a b c. refl) l e in
+        ap (λ k. flatMap (at k) (upTo (length k / 3))) r
+        ∙ flat-threes (λ (t : A × A × A). t .0) (λ t. t .1) (λ t. t .2) ts d (λ i. 3 * i + 0) (λ i. omega arith) (λ a b c. a ∷ b ∷ c ∷ []) ∙ sym r

@@ -15,7 +15,7 @@ line-of-requires c κs = search needs
 
 returns : tie.Need-returns
 unfolding line printed
-returns c = (c .line-of .ensures .0 ∙ ap (λ m. text (line (called m room))) (c .before .outcome .ensures), c .line-of .ensures .1)
+returns c = c .line-of .ensures ∙ ap (λ m. text (line (called m room))) (c .before .outcome .ensures)
 
 pub printed-spec : {M : Type 1} → statement M
 printed-spec = tie.close (tie.spec outcome-requires line-of-requires returns)

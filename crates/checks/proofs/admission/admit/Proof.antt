@@ -8,6 +8,7 @@ use Rattle.sums.specs.Lists.{any}
 use Rattle.solids.specs.Refusals.{answer}
 use Rattle.solids.specs.Solids.{Solid, solid, vertices, half-edges, pairs}
 use Rattle.solids.specs.Admission.{uneven, too-many, differ}
+use Rattle.solids.proofs.Admitted.{even-back, few-back}
 use Rattle.solids.proofs.Orders.{first-1, then-2, then-3, then-4, then-5, then-6, else-accepted}
 use Rattle.solids.proofs.Closure.{all-fine, low, closure-there}
 use Rattle.checks.proofs.admission.admit.Statement.{statement}
@@ -18,12 +19,10 @@ of s = solid (s .args .points .now) (s .args .corners .now)
 
 -- ---- what is known behind each check
 no-1 : (c : tie.Else2) → uneven (of (c .before .before .before .before)) ≡ false
-unfolding uneven
-no-1 c = rw (eq-eqb _ _ (c .before .if1 .left), eq-eqb _ _ (c .if2 .left))
+no-1 c = even-back (of (c .before .before .before .before)) (c .before .if1 .left) (c .if2 .left)
 
 no-2 : (c : tie.Else4) → too-many (of (c .before .before .before .before .before .before)) ≡ false
-unfolding too-many
-no-2 c = rw (le-ltb _ _ (c .before .if3 .left), le-ltb _ _ (c .if4 .left))
+no-2 c = few-back (of (c .before .before .before .before .before .before)) (c .before .if3 .left) (c .if4 .left)
 
 returns : tie.Need-returns
 unfolding uneven

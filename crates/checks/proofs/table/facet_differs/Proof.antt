@@ -1,6 +1,6 @@
 -- `facet_differs` meets its contract: the first half-edge that differs decides.
-use mathlib.Core.Path.{_≡_, refl}
-use mathlib.Core.Bool.{Bool, true, false, _||_}
+use mathlib.Core.Path.{sym}
+use mathlib.Core.Bool.{or-false}
 use native.Mathlib.Omega.{arith}
 use native.Mathlib.Nat.{add-zero}
 use Rattle.sums.specs.Lists.{any}
@@ -51,10 +51,6 @@ differ-requires-2 c κs = let s = c .before .before .before .before .before .bef
 differ-requires-3 : tie.Need-differ-requires-3
 differ-requires-3 c κs = let s = c .before .before .before .before .before .before .before .before in (low-at (s .args .corners .now) (s .args .f) 2 (s .pre .0) (s .pre .1) (omega arith), low-first (s .args .corners .now) (s .args .f) (s .pre .0) (s .pre .1), s .pre .2)
 
-last : (b : Bool) → b ≡ b || false
-last true = refl
-last false = refl
-
 returns : tie.Need-returns
 unfolding any
 returns c = rw (add-zero, ← c .before .differ .ensures, c .if1 .taken)
@@ -65,7 +61,7 @@ returns-2 c = rw (add-zero, ← c .before .before .before .differ .ensures, c .b
 
 returns-3 : tie.Need-returns-3
 unfolding any
-returns-3 c = rw (add-zero, ← c .before .before .before .before .differ .ensures, c .before .before .before .if1 .left, ← c .before .before .differ2 .ensures, c .before .if2 .left, ← c .differ3 .ensures) (last (c .differ3 .result))
+returns-3 c = rw (add-zero, ← c .before .before .before .before .differ .ensures, c .before .before .before .if1 .left, ← c .before .before .differ2 .ensures, c .before .if2 .left, ← c .differ3 .ensures) (sym (or-false (c .differ3 .result)))
 
 pub facet-differs-spec : {M : Type 1} → statement M
 facet-differs-spec =

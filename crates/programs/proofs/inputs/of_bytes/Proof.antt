@@ -104,7 +104,7 @@ returns-3 c op known =
     let l = laid-A e in
     let m = laid-B k in
     c .refused3 .ensures
-    ∙ sym (ap made (trailing op bs (e .before .scan .result .used) (l .xs) (l .ds) (l .as-laid) (k .before .scan2 .result .used) (m .xs) (m .ds) (m .as-laid) (c .before .if3 .taken)))
+    ∙ sym (ap made (trailing op bs (e .before .scan .result .used) (l .xs) (l .ds) (l .as-laid) (k .before .scan2 .result .used) (m .xs) (m .ds) (m .as-laid) (λ all. omega arith)))
 
 slice-aggregate-of-walks : tie.Need-slice-aggregate-of-walks
 slice-aggregate-of-walks c = sym (c .before .before .before .before .before .before .before .before .before .scan .ensures .1 .0)
@@ -137,7 +137,7 @@ returns-4 c op known =
     c .of-walks .ensures
     ∙ ap made (of-walks-found (a .code) (f .result) (f .last .1 .0) (f .last .1 .1 .0) (g .result) (g .last .1 .0) (g .last .1 .1 .0)
     op known _ (l .xs) (l .ds) (l .found) _ (m .xs) (m .ds) (m .found)
-    ∙ sym (both-laid op (a .bytes .now) (f .result .used) (l .xs) (l .ds) (l .as-laid) (g .result .used) (m .xs) (m .ds) (m .as-laid) (d .if3 .left)))
+    ∙ sym (both-laid op (a .bytes .now) (f .result .used) (l .xs) (l .ds) (l .as-laid) (g .result .used) (m .xs) (m .ds) (m .as-laid) (omega (arith, within-B k))))
 
 pub of-bytes-spec : {M : Type 1} → statement M
 of-bytes-spec =

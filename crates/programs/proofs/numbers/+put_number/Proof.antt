@@ -1,15 +1,12 @@
 -- The proof of the cycle of calls {put_number}: one digit, or the digits of a tenth and one more. The measure is the number.
-use mathlib.Core.Path.{ap, _∙_}
-use mathlib.Core.List.{[], _∷_, append-assoc}
-use Prim.Native.Nat.{ℕ, _+_, _/_, _%_, _<_}
+use mathlib.Core.Path.{ap}
+use Prim.Native.Nat.{ℕ, _<_}
 use native.Mathlib.Omega.{arith}
 use lib.ListN.{length}
 use borrow.Fn.Kinds.{In}
 use borrow.Fn.PlainCycle.{Measures, is, falls, and}
-use Rattle.line.specs.Line.{digits}
-use Rattle.programs.specs.Answers.{said}
 use Rattle.programs.proofs.Digits.{one-digit, more-digits, length-more}
-use Rattle.programs.proofs.Texts.{then-behind}
+use Rattle.programs.proofs.Texts.{and-then}
 use Rattle.programs.proofs.numbers.digit.Reads as digit-reads
 use Rattle.programs.proofs.numbers.put_byte.Reads as put-byte-reads
 use Rattle.programs.proofs.numbers.put_number.Reads as put-number
@@ -41,8 +38,7 @@ module _ (t : ℕ) where
       omega (arith, ap length (one-digit (s .args .n) (c .before .if1 .taken)), s .pre .1)
 
   returns : lts.Need-returns claims at put-number.Post
-  returns c =
-      rw (one-digit (c .before .before .before .args .n) (c .before .before .if1 .taken), ← c .before .digit .ensures) (c .put-byte .ensures .0, c .put-byte .ensures .1, c .put-byte .ensures .3)
+  returns c = rw (one-digit (c .before .before .before .args .n) (c .before .before .if1 .taken), ← c .before .digit .ensures) (c .put-byte .ensures)
 
   put-number-requires : lts.Need-put-number-requires claims at put-number.Post
   put-number-requires c κs =
@@ -55,20 +51,12 @@ module _ (t : ℕ) where
   put-byte-requires-2 : lts.Need-put-byte-requires-2 claims at put-number.Post
   put-byte-requires-2 c κs =
       let s = c .before .before .before in
-      omega (arith, length-more (s .args .n) (c .before .before .if1 .left), s .pre .1, c .before .put-number .ensures .1)
+      omega (arith, length-more (s .args .n) (c .before .before .if1 .left), s .pre .1, c .before .put-number .ensures)
 
   returns-2 : lts.Need-returns-2 claims at put-number.Post
   returns-2 c =
       let k = c .before .before in
-      let s = k .before .before in
-      let n = s .args .n in
-      let l = k .before .if1 .left in (
-        c .put-byte2 .ensures .0
-            ∙ rw (k .put-number .ensures .0, c .before .digit2 .ensures, more-digits n l)
-            (append-assoc (said (s .args .t)) (digits (n / 10)) ((0x30 + n % 10) ∷ [])),
-        omega (arith, length-more n l, c .put-byte2 .ensures .1, k .put-number .ensures .1),
-        then-behind (s .args .t) (k .put-number .result) (c .put-byte2 .result) (omega (arith, c .put-byte2 .ensures .1)) (k .put-number .ensures .2) (c .put-byte2 .ensures .3),
-      )
+      rw (more-digits (k .before .before .args .n) (k .before .if1 .left), ← c .before .digit2 .ensures) (and-then (k .put-number .ensures) (c .put-byte2 .ensures))
 
 pub +put-number-spec : {M : Type 1} → statement M
 +put-number-spec =

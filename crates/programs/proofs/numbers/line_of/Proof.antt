@@ -1,16 +1,13 @@
 -- `line_of` meets its contract: number by number; each has at most 20 digits.
-use mathlib.Core.Path.{_≡_}
-use mathlib.Core.List.{append-assoc}
+use mathlib.Core.Path.{refl}
+use mathlib.Core.List.{[]}
 use Prim.Native.Nat.{_≤_}
 use native.Mathlib.Omega.{arith}
-use lib.ListN.{length, replicate}
+use lib.ListN.{length}
 use borrow.Author.Needs.{needs}
-use Rattle.results.specs.Operation.{called}
-use Rattle.line.specs.Line.{digits, room, line}
-use Rattle.programs.specs.declared.Text.{Text}
-use Rattle.programs.specs.Answers.{said}
+use Rattle.line.specs.Line.{digits, line}
 use Rattle.programs.proofs.Digits.{few-digits}
-use Rattle.programs.proofs.Texts.{then-behind, whole-text}
+use Rattle.programs.proofs.Texts.{and-then}
 use Rattle.programs.proofs.numbers.line_of.Statement.{statement}
 use Rattle.programs.proofs.numbers.line_of.Tie as tie
 
@@ -48,29 +45,10 @@ returns c =
     let p3 = c .before in
     let p2 = p3 .before .before in
     let p1 = p2 .before .before in
-    let made = p1 .before .before .args .made in
-    let r = c .put-byte3 .result in
-    let says : said r ≡ line (called made room) =
-    rw (
-      c .put-byte3 .ensures .0,
-      p3 .put-number3 .ensures .0,
-      p3 .before .put-byte2 .ensures .0,
-      p2 .put-number2 .ensures .0,
-      p2 .before .put-byte .ensures .0,
-      p1 .put-number .ensures .0,
-    ) (simp append-assoc) in
-    let zeros : Text = record { bytes = replicate 64 0; length = 0 } in
-    let t1 = p1 .put-number in
-    let t2 = p2 .before .put-byte in
-    let t3 = p2 .put-number2 in
-    let t4 = p3 .before .put-byte2 in
-    let t5 = p3 .put-number3 in
-    let b2 = then-behind zeros (t1 .result) (t2 .result) (omega (arith, t2 .ensures .1)) (t1 .ensures .2) (t2 .ensures .3) in
-    let b3 = then-behind zeros (t2 .result) (t3 .result) (omega (arith, t3 .ensures .1)) b2 (t3 .ensures .2) in
-    let b4 = then-behind zeros (t3 .result) (t4 .result) (omega (arith, t4 .ensures .1)) b3 (t4 .ensures .3) in
-    let b5 = then-behind zeros (t4 .result) (t5 .result) (omega (arith, t5 .ensures .1)) b4 (t5 .ensures .2) in
-    let b6 = then-behind zeros (t5 .result) r (omega (arith, c .put-byte3 .ensures .1)) b5 (c .put-byte3 .ensures .3) in
-    (whole-text r (line (called made room)) says (c .put-byte3 .ensures .2) b6, c .put-byte3 .ensures .2)
+    let last = and-then (p3 .put-number3 .ensures) (c .put-byte3 .ensures) in
+    let two = and-then (p2 .put-number2 .ensures) (and-then (p3 .before .put-byte2 .ensures) last) in
+    let all = and-then (p1 .put-number .ensures) (and-then (p2 .before .put-byte .ensures) two) in
+    all .says [] refl
 
 pub line-of-spec : {M : Type 1} → statement M
 line-of-spec =

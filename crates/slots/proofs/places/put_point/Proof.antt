@@ -1,31 +1,56 @@
--- `put_point` meets its contract.
-use Rattle.slots.proofs.Kept.{put-slot}
-use Rattle.slots.proofs.Keyed.{within-at}
-use Rattle.solids.specs.Solids.{solid}
+-- `put_point` meets its contract: three stores, each where there is room.
+use mathlib.Core.Path.{_≡_}
+use Prim.Native.Nat.{suc, _+_}
+use native.Mathlib.Omega.{arith}
+use lib.ListN.{length-set}
 use borrow.Author.Needs.{needs}
 use Rattle.slots.proofs.places.put_point.Statement.{statement}
 use Rattle.slots.proofs.places.put_point.Tie as tie
 
-slot-at-requires : tie.Need-slot-at-requires
-slot-at-requires c κs = search needs
+mul-list : tie.Need-mul-list
+mul-list c = search needs
 
-place-at-requires : tie.Need-place-at-requires
-place-at-requires c κs =
-    let s = c .before .before .before .before .before .before in
-    let a = s .args in
-    (s .pre .0, within-at (solid (a .ap .now) (a .ac .now)) (solid (a .bp .now) (a .bc .now)) (a .z) (a .k) (s .pre .1 .0 .0) (s .pre .1 .0 .2) (c .slot-at .ensures))
+slice-write-list : tie.Need-slice-write-list
+slice-write-list c = search needs
 
-put-three-requires : tie.Need-put-three-requires
-put-three-requires c κs = search needs
+add-list : tie.Need-add-list
+add-list c = search needs
+
+mul-list-2 : tie.Need-mul-list-2
+mul-list-2 c = search needs
+
+slice-write-list-2 : tie.Need-slice-write-list-2
+slice-write-list-2 c = simp length-set (omega arith)
+
+add-list-2 : tie.Need-add-list-2
+add-list-2 c = search needs
+
+mul-list-3 : tie.Need-mul-list-3
+mul-list-3 c = search needs
+
+slice-write-list-3 : tie.Need-slice-write-list-3
+slice-write-list-3 c = simp length-set (omega arith)
 
 same-length : tie.Need-same-length
 same-length c = search needs
 
 returns : tie.Need-returns
 returns c =
-    let a = c .before .before .before .before .before .before .before .before .before .before .before .args in
-    put-slot (solid (a .ap .now) (a .ac .now)) (solid (a .bp .now) (a .bc .now)) (a .z) (a .list .now) (a .at) (a .k) (c .before .before .before .before .before .slot-at .ensures) (c .before .before .before .before .place-at .ensures) (c .before .before .put-three .ensures)
+    let x : c .args .at + 1 ≡ suc (c .args .at) = omega arith in
+    let y : c .args .at + 2 ≡ suc (suc (c .args .at)) = omega arith in
+    rw (x, y)
 
 pub put-point-spec : {M : Type 1} → statement M
 put-point-spec =
-    tie.close (tie.spec slot-at-requires place-at-requires put-three-requires same-length returns)
+    tie.close
+    (tie.spec
+    mul-list
+    slice-write-list
+    add-list
+    mul-list-2
+    slice-write-list-2
+    add-list-2
+    mul-list-3
+    slice-write-list-3
+    same-length
+    returns)

@@ -34,8 +34,8 @@ mul-c c = search needs
 shared-slice-copy-out-c : tie.Need-shared-slice-copy-out-c Inv-loop μ-loop
 shared-slice-copy-out-c c = search needs
 
-put-point-requires : tie.Need-put-point-requires Inv-loop μ-loop
-put-point-requires c κs =
+put-slot-requires : tie.Need-put-slot-requires Inv-loop μ-loop
+put-slot-requires c κs =
     let s = c .before .before .before .before .before .before .before .before .before .before in
     let l = c .before .before .before .before .loop in
     let a = s .args in
@@ -85,7 +85,7 @@ put-points-spec =
     loop-holds
     mul-c
     shared-slice-copy-out-c
-    put-point-requires
+    put-slot-requires
     add-at
     add-k
     loop-less

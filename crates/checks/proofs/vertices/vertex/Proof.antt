@@ -1,13 +1,13 @@
+-- `vertex` meets its contract: the three numbers stand in the list, so it does not matter what would stand beyond it.
 use Prim.Native.Nat.{_+_, _*_}
 use native.Mathlib.Omega.{arith}
 use native.Mathlib.Nat.{add-zero}
 use lib.Ieee.{nan}
 use Rattle.sums.proofs.Sums.{getD-within}
 use Rattle.points.specs.Points.{zero-number}
--- `vertex` meets its contract: the three numbers stand in the list, so it does not matter what would stand beyond it.
 use borrow.Author.Needs.{needs}
-use Rattle.checks.proofs.containment.vertex.Statement.{statement}
-use Rattle.checks.proofs.containment.vertex.Tie as tie
+use Rattle.checks.proofs.vertices.vertex.Statement.{statement}
+use Rattle.checks.proofs.vertices.vertex.Tie as tie
 
 mul-t3 : tie.Need-mul-t3
 mul-t3 c = search needs
