@@ -20,7 +20,7 @@ One {A} allowed = (r q : A) → allowed r → allowed q → r ≡ q
 pub record Unique : Type 0 where
   -- operations::operate
   pub operate : (code : ℕ) (a b : Solid) (l : Lent) → One (Operate code a b l)
-  -- checks::containment::count_as_a and count_as_b
+  -- containment::count_as_a and count_as_b
   pub count-as-a : (v : Point) (s : Solid) → One (CountAsA v s)
   pub count-as-b : (v : Point) (s : Solid) → One (CountAsB v s)
   -- checks::admission::admit and admit_point

@@ -50,7 +50,7 @@ pub extern "C" fn ozoravesh_count_as_a(
 ) -> Counted
     ensures { λ r. ⌜ Co.CountAsA (record { x = x; y = y; z = z }) (So.solid (now (points .entry)) (now (corners .entry))) r ⌝ }
 {
-    checks::containment::count_as_a(Point { x, y, z }, points, corners)
+    containment::count_as_a(Point { x, y, z }, points, corners)
 }
 
 // How often the solid, as B, contains the point x, y, z.
@@ -64,7 +64,7 @@ pub extern "C" fn ozoravesh_count_as_b(
 ) -> Counted
     ensures { λ r. ⌜ Co.CountAsB (record { x = x; y = y; z = z }) (So.solid (now (points .entry)) (now (corners .entry))) r ⌝ }
 {
-    checks::containment::count_as_b(Point { x, y, z }, points, corners)
+    containment::count_as_b(Point { x, y, z }, points, corners)
 }
 
 // What an origin shows, in the front of a lent list.

@@ -43,9 +43,9 @@ pub fn op(
 
 fn counted(as_b: bool, v: Point, points: &[f64], corners: &[u32]) -> Counted {
     if as_b {
-        checks::containment::count_as_b(v, points, corners)
+        containment::count_as_b(v, points, corners)
     } else {
-        checks::containment::count_as_a(v, points, corners)
+        containment::count_as_a(v, points, corners)
     }
 }
 

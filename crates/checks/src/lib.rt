@@ -1,6 +1,5 @@
-// Admission and the two containment counts in code. A solid is two lists that the caller lends: coordinates, three a point, and corners, three vertex
+// Admission in code. A solid is two lists that the caller lends: coordinates, three a point, and corners, three vertex
 // numbers a facet.
 pub mod admission;
-pub mod containment;
 pub mod table;
 pub mod vertices;

@@ -66,8 +66,8 @@ fn vertex_facet(
         return 0;
     }
     let v = checks::vertices::vertex(own, i);
-    let facet = checks::containment::facet(points, corners, f);
-    checks::containment::facet_s(as_b, v, facet)
+    let facet = containment::facet(points, corners, f);
+    containment::facet_s(as_b, v, facet)
 }
 
 // "X(eA,eB) = S(eA's e,eB) - S(eA's s,eB) + S(eA,eB's e) - S(eA,eB's s)": where it is 0 nothing more is worked out.

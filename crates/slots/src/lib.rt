@@ -72,7 +72,7 @@ pub fn edge_facet(
     ensures { λ r. ⌜ r ≡ In.edge-facet (So.solid (now (ap .entry)) (now (ac .entry))) (So.solid (now (bp .entry)) (now (bc .entry))) (Wo.edge-numbered (So.solid (now (ap .entry)) (now (ac .entry))) e) f ⌝ }
 {
     let edge = edge_at(ap, ends, ac, e);
-    let facet = checks::containment::facet(bp, bc, f);
+    let facet = containment::facet(bp, bc, f);
     crossings::ef(edge, facet)
 }
 
@@ -90,7 +90,7 @@ pub fn facet_edge(
     requires { ⌜ Wo.Ready (now bp) (now bc) (now ends) × (e < length (So.edges (So.solid (now bp) (now bc)))) ⌝ }
     ensures { λ r. ⌜ r ≡ In.facet-edge (So.solid (now (ap .entry)) (now (ac .entry))) (So.solid (now (bp .entry)) (now (bc .entry))) f (Wo.edge-numbered (So.solid (now (bp .entry)) (now (bc .entry))) e) ⌝ }
 {
-    let facet = checks::containment::facet(ap, ac, f);
+    let facet = containment::facet(ap, ac, f);
     let edge = edge_at(bp, ends, bc, e);
     crossings::fe(facet, edge)
 }

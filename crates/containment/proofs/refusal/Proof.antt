@@ -2,8 +2,8 @@
 use mathlib.Core.Path.{sym, _∙_}
 use Rattle.solids.proofs.Answers.{first-answer, two-answers, point-numbered}
 use borrow.Author.Needs.{needs}
-use Rattle.checks.proofs.containment.refusal.Statement.{statement}
-use Rattle.checks.proofs.containment.refusal.Tie as tie
+use Rattle.containment.proofs.refusal.Statement.{statement}
+use Rattle.containment.proofs.refusal.Tie as tie
 
 admit-point-requires : tie.Need-admit-point-requires
 admit-point-requires c κs = search needs

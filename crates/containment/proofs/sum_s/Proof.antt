@@ -20,8 +20,8 @@ use Rattle.crossings.proofs.Fits.{fits-sum}
 use Rattle.solids.specs.Solids.{solid, facet}
 use Rattle.solids.specs.Table.{facet-S}
 use borrow.Author.Needs.{needs}
-use Rattle.checks.proofs.containment.sum_s.Statement.{statement}
-use Rattle.checks.proofs.containment.sum_s.Tie as tie
+use Rattle.containment.proofs.sum_s.Statement.{statement}
+use Rattle.containment.proofs.sum_s.Tie as tie
 
 abbrev part : Bool → Point → List Float → List ℕ → ℕ → ℤ
 part as-b v points corners f = facet-S as-b v (facet (solid points corners) f)

@@ -1,8 +1,8 @@
 use native.Mathlib.Omega.{arith}
 -- `corner` meets its contract.
 use borrow.Author.Needs.{needs}
-use Rattle.checks.proofs.containment.corner.Statement.{statement}
-use Rattle.checks.proofs.containment.corner.Tie as tie
+use Rattle.containment.proofs.corner.Statement.{statement}
+use Rattle.containment.proofs.corner.Tie as tie
 
 mul-number : tie.Need-mul-number
 mul-number c = search needs

@@ -12,8 +12,8 @@ use Rattle.solids.proofs.Admitted.{passed}
 use Rattle.solids.proofs.Closure.{named}
 use Rattle.solids.proofs.Answers.{Numbered, point-numbered, admission-numbered, in-order-numbered, both-accepted, count-as-is, counted-refused, counted-accepted}
 use borrow.Author.Needs.{needs}
-use Rattle.checks.proofs.containment.count_as.Statement.{statement}
-use Rattle.checks.proofs.containment.count_as.Tie as tie
+use Rattle.containment.proofs.count_as.Statement.{statement}
+use Rattle.containment.proofs.count_as.Tie as tie
 
 abbrev of : tie.Start → Solid
 of s = solid (s .args .points .now) (s .args .corners .now)

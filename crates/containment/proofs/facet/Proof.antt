@@ -2,8 +2,8 @@ use Prim.Native.Nat.{_*_}
 -- `facet` meets its contract: its corners' points, and how its corner numbers follow each other.
 use native.Mathlib.Nat.{add-zero}
 use borrow.Author.Needs.{needs}
-use Rattle.checks.proofs.containment.facet.Statement.{statement}
-use Rattle.checks.proofs.containment.facet.Tie as tie
+use Rattle.containment.proofs.facet.Statement.{statement}
+use Rattle.containment.proofs.facet.Tie as tie
 
 mul-p : tie.Need-mul-p
 mul-p c = search needs

@@ -1,8 +1,8 @@
 -- `count_as_b` meets its contract.
 use Rattle.solids.specs.Table.{count-as}
 use borrow.Author.Needs.{needs}
-use Rattle.checks.proofs.containment.count_as_b.Statement.{statement}
-use Rattle.checks.proofs.containment.count_as_b.Tie as tie
+use Rattle.containment.proofs.count_as_b.Statement.{statement}
+use Rattle.containment.proofs.count_as_b.Tie as tie
 
 count-as-requires : tie.Need-count-as-requires
 count-as-requires c κs = search needs

@@ -15,8 +15,8 @@ use Rattle.solids.specs.Solids.{solid, facet}
 use Rattle.solids.specs.Containment.{in-A, in-B}
 use Rattle.solids.specs.Table.{facet-S, contained}
 use borrow.Author.Needs.{needs}
-use Rattle.checks.proofs.containment.contained.Statement.{statement}
-use Rattle.checks.proofs.containment.contained.Tie as tie
+use Rattle.containment.proofs.contained.Statement.{statement}
+use Rattle.containment.proofs.contained.Tie as tie
 
 sum-s-requires : tie.Need-sum-s-requires
 sum-s-requires c κs = search needs

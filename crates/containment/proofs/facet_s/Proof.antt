@@ -7,8 +7,8 @@ use mir.Syntax.{w32}
 use mir.Val.{toZ, ofZ}
 use Rattle.solids.specs.Table.{facet-S}
 use borrow.Author.Needs.{needs}
-use Rattle.checks.proofs.containment.facet_s.Statement.{statement}
-use Rattle.checks.proofs.containment.facet_s.Tie as tie
+use Rattle.containment.proofs.facet_s.Statement.{statement}
+use Rattle.containment.proofs.facet_s.Tie as tie
 
 vf-requires : tie.Need-vf-requires
 vf-requires c κs = search needs

@@ -1,6 +1,6 @@
-// How often a solid contains a point, with the solid as A and as B.
-use crate::admission;
-use crate::vertices;
+// How often a solid contains a point, with the solid as A and as B, in code; and a facet's corners, from the two lists of a solid.
+use checks::admission;
+use checks::vertices;
 use crossings::Facet;
 use points::Axis;
 use points::Point;
