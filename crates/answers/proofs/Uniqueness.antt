@@ -32,6 +32,7 @@ unique =
       count-as-b = λ v s r q d e. same d e;
       admit = λ s r q d e. same d e;
       admit-point = λ v r q d e. same d e;
+      admit-answer = λ s r q d e. same d e;
       shown = λ a b origin r q d e. same d e;
       read = λ bs ps cs r q d e. ap of-reading (same d e);
       write = λ s bs r q d e. ap of-writing (same d e);

@@ -5,7 +5,7 @@ use mathlib.Core.List.{List}
 use lib.Ieee.{Float}
 use Rattle.points.specs.declared.Point.{Point}
 use Rattle.solids.specs.Solids.{Solid}
-use Rattle.solids.specs.Admission.{Admit, AdmitPoint}
+use Rattle.solids.specs.Admission.{Admit, AdmitAnswer, AdmitPoint}
 use Rattle.solids.specs.Containment.{CountAsA, CountAsB}
 use Rattle.results.specs.Operation.{Lent, Operate}
 use Rattle.results.specs.Origin.{Part, Shown}
@@ -34,5 +34,6 @@ pub record Unique : Type 0 where
   -- programs::outcome and programs::printed
   pub program : (input : List ℕ) → One (Program input)
   pub printed : (input : List ℕ) → One (Printed input)
-  -- capi: `ozoravesh_shown` copies what is shown; the other calls for C cite a relation above
+  -- capi: `ozoravesh_admit` tells the verdict's number, and `ozoravesh_shown` copies what is shown; the other calls for C cite a relation above
+  pub admit-answer : (s : Solid) → One (AdmitAnswer s)
   pub shown-copied : (a b : Part) (origin : ℕ) (lent : List ℕ) → One (ShownCopied a b origin lent)

@@ -34,9 +34,9 @@ pub extern "C" fn ozoravesh_operate(
 // The answer of a solid's admission.
 #[no_mangle]
 pub extern "C" fn ozoravesh_admit(points: &[f64], corners: &[u32]) -> u32
-    ensures { λ r. ⌜ Ad.Admit (So.solid (now (points .entry)) (now (corners .entry))) r ⌝ }
+    ensures { λ r. ⌜ Ad.AdmitAnswer (So.solid (now (points .entry)) (now (corners .entry))) r ⌝ }
 {
-    checks::admission::admit(points, corners)
+    checks::admission::admit(points, corners).answer()
 }
 
 // How often the solid, as A, contains the point x, y, z.

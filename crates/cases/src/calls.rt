@@ -58,7 +58,7 @@ pub fn count(out: &mut Lines, as_b: bool, v: Point, points: &[f64], corners: &[u
 }
 
 pub fn admit(out: &mut Lines, points: &[f64], corners: &[u32]) {
-    let answer = checks::admission::admit(points, corners);
+    let answer = checks::admission::admit(points, corners).answer();
     let at = output::number(out, 0, answer as u64);
     let line = output::text(out, at, b"\n");
     output::stop(out, line);

@@ -2,6 +2,7 @@
 use crate::table;
 use crate::vertices;
 use points::Point;
+use solids::Verdict;
 ghost use mathlib.Core.Path.{_≡_};
 ghost use mathlib.Core.List.{[]};
 ghost use Prim.Native.Nat.{_+_, _*_, _/_, _%_, _<_, _≤_};
@@ -126,40 +127,46 @@ fn unmatched(corners: &[u32]) -> bool
     table::some_differ(&counts, corners)
 }
 
-// The answer of admission: 0, or the number of the first check that refuses.
-pub fn admit(points: &[f64], corners: &[u32]) -> u32
+// Admission: accepted, or refused by the first check that refuses.
+pub fn admit(points: &[f64], corners: &[u32]) -> Verdict
     ensures { λ r. ⌜ Ad.Admit (So.solid (now (points .entry)) (now (corners .entry))) r ⌝ }
 {
     if points.len() % 3 != 0 {
-        return 1;
+        return Verdict::Refused(1);
     }
     if corners.len() % 3 != 0 {
-        return 1;
+        return Verdict::Refused(1);
     }
     if points.len() / 3 > 128 {
-        return 2;
+        return Verdict::Refused(2);
     }
     if corners.len() / 3 > 256 {
-        return 2;
+        return Verdict::Refused(2);
     }
     if some_bad(true, points) {
-        return 3;
+        return Verdict::Refused(3);
     }
     if some_bad(false, points) {
-        return 4;
+        return Verdict::Refused(4);
     }
     if some_faulty(points, corners) {
-        return 5;
+        return Verdict::Refused(5);
     }
-    if unmatched(corners) { 6 } else { 0 }
+    if unmatched(corners) {
+        return Verdict::Refused(6);
+    }
+    Verdict::Accepted
 }
 
-// The answer of a point's admission, by 3 and 4.
-pub fn admit_point(v: Point) -> u32
+// A point's admission, by 3 and 4.
+pub fn admit_point(v: Point) -> Verdict
     ensures { λ r. ⌜ Ad.AdmitPoint v r ⌝ }
 {
     if bad_point(true, v) {
-        return 3;
+        return Verdict::Refused(3);
     }
-    if bad_point(false, v) { 4 } else { 0 }
+    if bad_point(false, v) {
+        return Verdict::Refused(4);
+    }
+    Verdict::Accepted
 }

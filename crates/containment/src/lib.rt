@@ -5,6 +5,7 @@ use crossings::Facet;
 use points::Axis;
 use points::Point;
 use solids::Counted;
+use solids::Verdict;
 ghost use mathlib.Core.Path.{_≡_};
 ghost use mathlib.Core.List.{[], _∷_};
 ghost use Prim.Native.Nat.{_+_, _*_, _/_, _<_, _≤_};
@@ -69,15 +70,14 @@ fn sum_s(as_b: bool, v: Point, points: &[f64], corners: &[u32]) -> i32
     sum
 }
 
-// The point's answer, then the solid's.
-fn refusal(v: Point, points: &[f64], corners: &[u32]) -> u32
-    ensures { λ r. ⌜ r ≡ Re.answer (Re.in-order (Ad.point-admission v ∷ Ad.admission (So.solid (now (points .entry)) (now (corners .entry))) ∷ [])) ⌝ }
+// The point's verdict, then the solid's.
+fn both(v: Point, points: &[f64], corners: &[u32]) -> Verdict
+    ensures { λ r. ⌜ r ≡ Re.in-order (Ad.point-admission v ∷ Ad.admission (So.solid (now (points .entry)) (now (corners .entry))) ∷ []) ⌝ }
 {
-    let of_point = admission::admit_point(v);
-    if of_point != 0 {
-        return of_point;
+    match admission::admit_point(v) {
+        Verdict::Refused(n) => Verdict::Refused(n),
+        Verdict::Accepted => admission::admit(points, corners),
     }
-    admission::admit(points, corners)
 }
 
 // "X(vA,B)" or "X(A,vB)".
@@ -93,13 +93,12 @@ pub fn contained(as_b: bool, v: Point, points: &[f64], corners: &[u32]) -> i32
 fn count_as(as_b: bool, v: Point, points: &[f64], corners: &[u32]) -> Counted
     ensures { λ r. ⌜ r ≡ Ta.count-as «as_b» v (So.solid (now (points .entry)) (now (corners .entry))) ⌝ }
 {
-    let answer = refusal(v, points, corners);
-    if answer != 0 {
-        return Counted { answer, count: 0 };
-    }
-    Counted {
-        answer: 0,
-        count: contained(as_b, v, points, corners),
+    match both(v, points, corners) {
+        Verdict::Refused(answer) => Counted { answer, count: 0 },
+        Verdict::Accepted => Counted {
+            answer: 0,
+            count: contained(as_b, v, points, corners),
+        },
     }
 }
 

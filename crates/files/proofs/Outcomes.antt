@@ -1,5 +1,5 @@
 -- What the two calls answer. The reader's 9, 2 and 8 by the numbers that a walk found, and past them the solid's admission; the writer's admission,
--- then 8 by the length of the file. A verdict is known from its number.
+-- then 8 by the length of the file.
 use mathlib.Core.Path.{_≡_, refl, sym, ap, ap₂, _∙_, subst}
 use mathlib.Core.Bool.{false, _||_}
 use mathlib.Core.List.{List, [], _∷_, _++_}
@@ -12,9 +12,10 @@ use lib.Dec.{ltb}
 use lib.Ieee.{Float}
 use borrow.Author.Tests.{ltb-false}
 use Rattle.sums.specs.Lists.{onto}
-use Rattle.sums.proofs.Sums.{All}
 use Rattle.sums.proofs.Tests.{never, or-false}
-use Rattle.solids.specs.Refusals.{Verdict, accepted, refused, answer, in-order}
+use Rattle.solids.specs.declared.Verdict.{Verdict}
+use Rattle.solids.specs.declared.Verdict.the-variants.{Accepted, Refused}
+use Rattle.solids.specs.Refusals.{answer, in-order}
 use Rattle.solids.specs.Solids.{Solid, solid, vertices, facets, vertex, corner}
 use Rattle.solids.specs.Admission.{uneven, too-many, check-sizes, admission}
 use Rattle.solids.proofs.Orders.{all-accepted, not-given}
@@ -27,18 +28,14 @@ use Rattle.housefile.specs.Writer.{file}
 use Rattle.files.specs.Walking.{Found, Scanned, many, short, by-numbers, refusal, handed-over, vertex-part, facet-part}
 use Rattle.files.proofs.Stores.{sets-onto, sets-three, length-run}
 use Rattle.housefile.proofs.Records.{length-encoded}
-use Rattle.housefile.proofs.Refusals.{Numbered, later-checks, in-order-numbered, given-numbered, even, read-as-admission}
+use Rattle.housefile.proofs.Refusals.{later-checks, even, read-as-admission}
 
--- ---- by the number
-pub refused-by : (v : Verdict) (n : ℕ) → n ≡ answer v → (n ≡ 0 → ⊥) → v ≡ refused n
-refused-by accepted n e d = absurd (d e)
-refused-by (refused k) n e d = ap refused (sym e)
-
-early : (vs ws : List Verdict) → (answer (in-order vs) ≡ 0 → ⊥) → in-order (vs ++ ws) ≡ refused (answer (in-order vs))
+-- a refusal of the first checks decides
+early : (vs ws : List Verdict) (n : ℕ) → in-order vs ≡ Refused n → in-order (vs ++ ws) ≡ Refused n
 unfolding in-order
-early [] ws d = absurd (d refl)
-early (accepted ∷ vs) ws d = early vs ws d
-early (refused n ∷ vs) ws d = refl
+early [] ws n e = let z : _≡_ {A = ℕ} 0 1 = cc in absurd (omega arith)
+early (Accepted ∷ vs) ws n e = early vs ws n e
+early (Refused k ∷ vs) ws n e = e
 
 there : {A : Type 0} (n : ℕ) (l : List A) → length (take n l) ≡ n → n ≤ length l
 there n l e = omega (arith, e, length-take n l)
@@ -72,12 +69,12 @@ module _ (w : Walk) (kept-points : List Float) (kept-corners : List ℕ) (ps : L
     unfolding read-solid check-sizes in-order
     checks-found = rw (f .sound, too-many-found w kept-points kept-corners used xs ds f, too-short-found)
 
-  pub refused-by-numbers : (l : Layout) → Scanned l w kept-points kept-corners → (refusal w (length ps) (length cs) ≡ 0 → ⊥)
-      → unread (refusal w (length ps) (length cs)) ps cs ≡ by-layout l ps cs
-  unfolding refusal in-order
-  refused-by-numbers fault e d = rw e
-  refused-by-numbers (laid used xs ds) f d =
-      sym (ap (λ v. reading v used (solid xs ds) ps cs) (checks-found used xs ds f ∙ early (by-numbers w (length ps) (length cs)) (later-checks (solid xs ds)) d))
+  pub refused-by-numbers : (l : Layout) → Scanned l w kept-points kept-corners → (n : ℕ) → refusal w (length ps) (length cs) ≡ Refused n
+      → unread n ps cs ≡ by-layout l ps cs
+  unfolding refusal in-order answer
+  refused-by-numbers fault e n d = let m : Refused 9 ≡ Refused n = rw e at d in ap (λ v. unread (answer v) ps cs) (sym m)
+  refused-by-numbers (laid used xs ds) f n d =
+      sym (ap (λ v. reading v used (solid xs ds) ps cs) (checks-found used xs ds f ∙ early (by-numbers w (length ps) (length cs)) (later-checks (solid xs ds)) n d))
 
   -- past them, the solid in the fronts of what was kept
   pub record Past (l : Layout) : Type 0 where
@@ -89,14 +86,13 @@ module _ (w : Walk) (kept-points : List Float) (kept-corners : List ℕ) (ps : L
     pub corners-room : 3 * w .facets ≤ length cs
     pub rest : by-layout l ps cs ≡ handed-over (solid (take (3 * w .vertices) kept-points) (take (3 * w .facets) kept-corners)) (w .used) ps cs
 
-  passes : refusal w (length ps) (length cs) ≡ 0 → (w .fault ≡ false) × (many w ≡ false) × (short w (length ps) (length cs) ≡ false)
+  passes : refusal w (length ps) (length cs) ≡ Accepted → (w .fault ≡ false) × (many w ≡ false) × (short w (length ps) (length cs) ≡ false)
   unfolding refusal
   passes z =
-      let numbered : All Numbered (by-numbers w (length ps) (length cs)) = (given-numbered 8 (w .fault), (given-numbered 1 (many w), (given-numbered 7 (short w (length ps) (length cs)), tt))) in
-      let (c9, (c2, (c8, end))) = all-accepted _ (in-order-numbered (by-numbers w (length ps) (length cs)) numbered z) in
+      let (c9, (c2, (c8, end))) = all-accepted (by-numbers w (length ps) (length cs)) z in
       (not-given _ _ c9, not-given _ _ c2, not-given _ _ c8)
 
-  pub past : (l : Layout) → Scanned l w kept-points kept-corners → refusal w (length ps) (length cs) ≡ 0 → Past l
+  pub past : (l : Layout) → Scanned l w kept-points kept-corners → refusal w (length ps) (length cs) ≡ Accepted → Past l
   past fault e z = absurd (never (w .fault) e (passes z .0))
   past (laid used xs ds) f z =
       let s : Solid = solid xs ds in

@@ -10,7 +10,8 @@ use lib.Dec.{ltb, eqb}
 use lib.Ieee.{Float}
 use Rattle.sums.specs.Lists.{upTo}
 use Rattle.points.specs.Points.{coordinates}
-use Rattle.solids.specs.Refusals.{Verdict, given, answer, in-order}
+use Rattle.solids.specs.declared.Verdict.{Verdict}
+use Rattle.solids.specs.Refusals.{given, in-order}
 use Rattle.solids.specs.Solids.{Solid, vertices, facets, vertex, corner}
 use Rattle.solids.specs.Admission.{admission}
 use Rattle.housefile.specs.declared.Read.{Read}
@@ -73,8 +74,8 @@ short w room-points room-corners = ltb room-points (3 * w .vertices) || ltb room
 abbrev pub by-numbers : Walk → ℕ → ℕ → List Verdict
 by-numbers w room-points room-corners = given 9 (w .fault) ∷ given 2 (many w) ∷ given 8 (short w room-points room-corners) ∷ []
 
-unfoldable pub refusal : Walk → ℕ → ℕ → ℕ
-refusal w room-points room-corners = answer (in-order (by-numbers w room-points room-corners))
+unfoldable pub refusal : Walk → ℕ → ℕ → Verdict
+refusal w room-points room-corners = in-order (by-numbers w room-points room-corners)
 
 abbrev pub unread : ℕ → Read
 unread n = record { answer = n; vertices = 0; facets = 0; used = 0 }

@@ -5,6 +5,7 @@ use checks::admission;
 use housefile::Read;
 use housefile::Record;
 use points::Point;
+use solids::Verdict;
 ghost use mathlib.Core.Path.{_≡_};
 ghost use mathlib.Core.List.{[], _∷_};
 ghost use Prim.Native.Nat.{_+_, _≤_, _<_, _^_};
@@ -109,22 +110,25 @@ pub fn scan(bytes: &[u8], points: &mut [f64; 384], corners: &mut [u32; 768]) -> 
 }
 
 // The checks that look at numbers alone, in the reader's order: 9, then 2, then 8.
-fn refusal(w: Walk, room_points: usize, room_corners: usize) -> u32
+fn refusal(w: Walk, room_points: usize, room_corners: usize) -> Verdict
     ensures { λ r. ⌜ r ≡ Wa.refusal w «room_points» «room_corners» ⌝ }
 {
     if w.fault {
-        return 9;
+        return Verdict::Refused(9);
     }
     if w.vertices > 128 {
-        return 2;
+        return Verdict::Refused(2);
     }
     if w.facets > 256 {
-        return 2;
+        return Verdict::Refused(2);
     }
     if room_points < 3 * w.vertices {
-        return 8;
+        return Verdict::Refused(8);
     }
-    if room_corners < 3 * w.facets { 8 } else { 0 }
+    if room_corners < 3 * w.facets {
+        return Verdict::Refused(8);
+    }
+    Verdict::Accepted
 }
 
 fn copy_points(from: &[f64], to: &mut [f64])
@@ -171,9 +175,9 @@ fn hand_over(
     requires { ⌜ (length (now «from_points») ≤ length (now points)) × (length (now «from_corners») ≤ length (now corners)) ⌝ }
     ensures { λ r. ⌜ Re.outcome r (now (points .exit)) (now (corners .exit)) ≡ Wa.handed-over (So.solid (now («from_points» .entry)) (now («from_corners» .entry))) used (now (points .entry)) (now (corners .entry)) ⌝ }
 {
-    let answer = admission::admit(from_points, from_corners);
-    if answer != 0 {
-        return refused(answer);
+    let said = admission::admit(from_points, from_corners);
+    if let Verdict::Refused(n) = said {
+        return refused(n);
     }
     copy_points(from_points, points);
     copy_corners(from_corners, corners);
@@ -192,9 +196,9 @@ pub fn read(bytes: &[u8], points: &mut [f64], corners: &mut [u32]) -> Read
     let mut kept_points = [0.0f64; 384];
     let mut kept_corners = [0u32; 768];
     let w = scan(bytes, &mut kept_points, &mut kept_corners);
-    let answer = refusal(w, points.len(), corners.len());
-    if answer != 0 {
-        return refused(answer);
+    let said = refusal(w, points.len(), corners.len());
+    if let Verdict::Refused(n) = said {
+        return refused(n);
     }
     let n = 3 * w.vertices;
     let m = 3 * w.facets;

@@ -3,6 +3,7 @@ use crate::coding;
 use checks::admission;
 use checks::vertices;
 use housefile::Written;
+use solids::Verdict;
 ghost use mathlib.Core.Path.{_≡_};
 ghost use mathlib.Core.Bool.{false};
 ghost use mathlib.Core.List.{[], flatMap};
@@ -47,8 +48,8 @@ fn put_facets(corners: &[u32], bytes: &mut [u8], at: usize)
 pub fn write(points: &[f64], corners: &[u32], bytes: &mut [u8]) -> Written
     ensures { λ r. ⌜ Wr.WriteFile (So.solid (now (points .entry)) (now (corners .entry))) (now (bytes .entry)) (r, now (bytes .exit)) ⌝ }
 {
-    let answer = admission::admit(points, corners);
-    if answer != 0 {
+    let said = admission::admit(points, corners);
+    if let Verdict::Refused(answer) = said {
         return Written { answer, used: 0 };
     }
     let facets_at = 26 * (points.len() / 3);

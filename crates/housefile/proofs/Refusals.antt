@@ -13,7 +13,9 @@ use borrow.Author.Tests.{lt-ltb, le-ltb, ltb-false}
 use Rattle.sums.specs.Lists.{upTo, any, onto}
 use Rattle.sums.proofs.Sums.{All}
 use Rattle.sums.proofs.Tests.{or-false}
-use Rattle.solids.specs.Refusals.{Verdict, accepted, refused, answer, given, in-order}
+use Rattle.solids.specs.declared.Verdict.{Verdict}
+use Rattle.solids.specs.declared.Verdict.the-variants.{Accepted, Refused}
+use Rattle.solids.specs.Refusals.{answer, given, in-order}
 use Rattle.solids.specs.Solids.{Solid, vertices, facets, half-edges, pairs}
 use Rattle.solids.specs.Admission.{uneven, too-many, beyond, faulty, differ}
 use Rattle.solids.specs.Admission.{check-lengths, check-sizes, check-blanks, check-limit, check-corners, check-closure, admission}
@@ -76,11 +78,11 @@ module _ (bs : List ℕ) (ps : List Float) (cs : List ℕ) where
 
 -- ---- the writer
 module _ (s : Solid) (lent : List ℕ) where
-  pub write-first : (n : ℕ) → admission s ≡ refused n → write s lent ≡ unwritten n lent
+  pub write-first : (n : ℕ) → admission s ≡ Refused n → write s lent ≡ unwritten n lent
   unfolding write in-order
   write-first n e = rw e
 
-  module _ (fine : admission s ≡ accepted) where
+  module _ (fine : admission s ≡ Accepted) where
     pub write-then-8 : length lent < length (file s) → write s lent ≡ unwritten 8 lent
     unfolding write in-order
     write-then-8 h = rw (fine, lt-ltb (length lent) (length (file s)) h)
@@ -99,8 +101,8 @@ read-refusal bs ps cs = by-case (layout bs)
     Plain r = r ≡ record { answer = r .answer; vertices = 0; facets = 0; used = 0; points = ps; corners = cs }
 
     checked : (v : Verdict) (used : ℕ) (s : Solid) → (reading v used s ps cs) .answer ≢ 0 → Plain (reading v used s ps cs)
-    checked accepted used s d = absurd (d refl)
-    checked (refused n) used s d = refl
+    checked Accepted used s d = absurd (d refl)
+    checked (Refused n) used s d = refl
 
     by-case : (l : Layout) → (by-layout l ps cs) .answer ≢ 0 → Plain (by-layout l ps cs)
     by-case fault d = refl
@@ -113,20 +115,21 @@ write-refusal s lent = by-case (in-order (admission s ∷ given 8 (ltb (length l
   where
     by-case : (v : Verdict) → (writing v (file s) lent) .answer ≢ 0
         → writing v (file s) lent ≡ record { answer = (writing v (file s) lent) .answer; used = 0; bytes = lent }
-    by-case accepted d = absurd (d refl)
-    by-case (refused n) d = refl
+    by-case Accepted d = absurd (d refl)
+    by-case (Refused n) d = refl
 
 -- ---- answer 0 is success: no check refuses with the number 0
 abbrev pub Numbered : Verdict → Type 0
-Numbered v = answer v ≡ 0 → v ≡ accepted
+Numbered v = answer v ≡ 0 → v ≡ Accepted
 
 pub in-order-numbered : (vs : List Verdict) → All Numbered vs → Numbered (in-order vs)
 unfolding in-order
 in-order-numbered [] a e = refl
-in-order-numbered (accepted ∷ vs) a e = in-order-numbered vs (a .1) e
-in-order-numbered (refused n ∷ vs) a e = a .0 e
+in-order-numbered (Accepted ∷ vs) a e = in-order-numbered vs (a .1) e
+in-order-numbered (Refused n ∷ vs) a e = a .0 e
 
 pub given-numbered : (n : ℕ) (b : Bool) → Numbered (given (suc n) b)
+unfolding answer
 given-numbered n true e = absurd (omega arith)
 given-numbered n false e = refl
 
@@ -157,23 +160,23 @@ module _ (s : Solid) where
       (given-numbered 1 (too-many s), (given-numbered 7 (too-short ps cs s), later-numbered))
 
 pub read-success : (bs : List ℕ) (ps : List Float) (cs : List ℕ) → (read bs ps cs) .answer ≡ 0
-    → (used : ℕ) × (s : Solid) × (layout bs ≡ laid used (s .points) (s .corners)) × (read-solid s ps cs ≡ accepted)
-unfolding read
+    → (used : ℕ) × (s : Solid) × (layout bs ≡ laid used (s .points) (s .corners)) × (read-solid s ps cs ≡ Accepted)
+unfolding read answer
 read-success bs ps cs = by-case (layout bs)
   where
     checked : (v : Verdict) (used : ℕ) (s : Solid) → (reading v used s ps cs) .answer ≡ 0 → answer v ≡ 0
-    checked accepted used s e = refl
-    checked (refused n) used s e = e
+    checked Accepted used s e = refl
+    checked (Refused n) used s e = e
 
     by-case : (l : Layout) → (by-layout l ps cs) .answer ≡ 0
-        → (used : ℕ) × (s : Solid) × (l ≡ laid used (s .points) (s .corners)) × (read-solid s ps cs ≡ accepted)
+        → (used : ℕ) × (s : Solid) × (l ≡ laid used (s .points) (s .corners)) × (read-solid s ps cs ≡ Accepted)
     by-case fault e = absurd (omega arith)
     by-case (laid used xs ds) e =
         let s : Solid = record { points = xs; corners = ds } in
         (used, s, refl, read-solid-numbered s ps cs (checked (read-solid s ps cs) used s e))
 
-pub write-success : (s : Solid) (lent : List ℕ) → (write s lent) .answer ≡ 0 → (admission s ≡ accepted) × (length (file s) ≤ length lent)
-unfolding write
+pub write-success : (s : Solid) (lent : List ℕ) → (write s lent) .answer ≡ 0 → (admission s ≡ Accepted) × (length (file s) ≤ length lent)
+unfolding write answer
 write-success s lent e =
     let numbered = in-order-numbered checks (admission-numbered s, (given-numbered 7 (ltb (length lent) (length (file s))), tt)) in
     let (a, (b, end)) = all-accepted checks (numbered (checked (in-order checks) e)) in
@@ -183,8 +186,8 @@ write-success s lent e =
     checks = admission s ∷ given 8 (ltb (length lent) (length (file s))) ∷ []
 
     checked : (v : Verdict) → (writing v (file s) lent) .answer ≡ 0 → answer v ≡ 0
-    checked accepted e = refl
-    checked (refused n) e = e
+    checked Accepted e = refl
+    checked (Refused n) e = e
 
 -- ---- the reader's checks and admission: of lists of whole threes they differ by 8 alone
 pub even : (s : Solid) → length (s .points) % 3 ≡ 0 → length (s .corners) % 3 ≡ 0 → uneven s ≡ false
@@ -206,13 +209,13 @@ module _ (s : Solid) (ps : List Float) (cs : List ℕ) where
   unfolding admission read-solid check-lengths check-sizes in-order
   read-as-admission e1 e2 e8 = rw (e1, e2, e8)
 
-  pub admitted-read : admission s ≡ accepted → too-short ps cs s ≡ false → read-solid s ps cs ≡ accepted
+  pub admitted-read : admission s ≡ Accepted → too-short ps cs s ≡ false → read-solid s ps cs ≡ Accepted
   unfolding admission read-solid
   admitted-read e h =
       let (c1, (c2, (c3, (c4, (c5, (c6, end)))))) = all-accepted _ e in
       accepted-all _ (c2, (ap (given 8) h, (c3, (c4, (c5, (c6, tt))))))
 
-  pub read-admitted : uneven s ≡ false → read-solid s ps cs ≡ accepted → (admission s ≡ accepted) × (too-short ps cs s ≡ false)
+  pub read-admitted : uneven s ≡ false → read-solid s ps cs ≡ Accepted → (admission s ≡ Accepted) × (too-short ps cs s ≡ false)
   unfolding admission read-solid check-lengths
   read-admitted w e =
       let (c2, (c8, (c3, (c4, (c5, (c6, end)))))) = all-accepted _ e in

@@ -11,7 +11,7 @@ use lib.Ieee.{Float, isNan}
 use Rattle.sums.specs.Lists.{onto}
 use Rattle.sums.proofs.Sums.{All, all-of, all-flatMap, all-of-flatMap}
 use Rattle.points.specs.Points.{coordinates}
-use Rattle.solids.specs.Refusals.{accepted}
+use Rattle.solids.specs.declared.Verdict.the-variants.{Accepted}
 use Rattle.solids.specs.Solids.{Solid, vertices, facets}
 use Rattle.solids.specs.Admission.{admission}
 use Rattle.solids.proofs.Admitted.{passed}
@@ -24,7 +24,7 @@ use Rattle.housefile.proofs.Shown.{Shows, shown, shown-whole, shown-fil
 use Rattle.housefile.proofs.Refusals.{read-checked, write-else, read-success, write-success, even, long-enough, not-too-short, admitted-read, read-admitted}
 
 -- ---- written, then read
-module _ (s : Solid) (fine : admission s ≡ accepted) (held : All F64 (s .points)) where
+module _ (s : Solid) (fine : admission s ≡ Accepted) (held : All F64 (s .points)) where
   pub layout-written : (rest : List ℕ) → layout (file s ++ rest) ≡ laid (length (file s)) (s .points) (s .corners)
   layout-written rest =
       let p = passed s fine in
@@ -34,7 +34,7 @@ module _ (s : Solid) (fine : admission s ≡ accepted) (held : All F64 (s .point
       ∙ ap₂ (laid (length (file s))) (sym (h .points)) (sym (h .corners))
 
   module _ (ps : List Float) (cs : List ℕ) (room-points : length (s .points) ≤ length ps) (room-corners : length (s .corners) ≤ length cs) where
-    pub written-then-read : (rest : List ℕ) → read (file s ++ rest) ps cs ≡ reading accepted (length (file s)) s ps cs
+    pub written-then-read : (rest : List ℕ) → read (file s ++ rest) ps cs ≡ reading Accepted (length (file s)) s ps cs
     written-then-read rest =
         read-checked (file s ++ rest) ps cs (length (file s)) s (layout-written rest)
         ∙ ap (λ v. reading v (length (file s)) s ps cs) (admitted-read s ps cs fine (long-enough s ps cs room-points room-corners))
@@ -42,10 +42,10 @@ module _ (s : Solid) (fine : admission s ≡ accepted) (held : All F64 (s .point
 -- the bytes that a call of the writer left, lent bytes behind the file and all
 pub write-then-read : (s : Solid) (lent : List ℕ) → (write s lent) .answer ≡ 0 → All F64 (s .points)
     → (ps : List Float) (cs : List ℕ) → length (s .points) ≤ length ps → length (s .corners) ≤ length cs
-    → read ((write s lent) .bytes) ps cs ≡ reading accepted ((write s lent) .used) s ps cs
+    → read ((write s lent) .bytes) ps cs ≡ reading Accepted ((write s lent) .used) s ps cs
 write-then-read s lent z held ps cs hp hc =
     let (fine, h) = write-success s lent z in
-    subst (λ (w : Writing). read (w .bytes) ps cs ≡ reading accepted (w .used) s ps cs) (sym (write-else s lent fine h))
+    subst (λ (w : Writing). read (w .bytes) ps cs ≡ reading Accepted (w .used) s ps cs) (sym (write-else s lent fine h))
     (written-then-read s fine held ps cs hp hc (drop (length (file s)) lent))
 
 -- ---- what a reading leaves in the lent lists' fronts
@@ -53,7 +53,7 @@ whole : (n : ℕ) → n % 3 ≡ 0 → n ≡ 3 * (n / 3)
 whole n h = omega arith
 
 pub solid-back : (used : ℕ) (s : Solid) (ps : List Float) (cs : List ℕ) → length (s .points) % 3 ≡ 0 → length (s .corners) % 3 ≡ 0
-    → solid-read (reading accepted used s ps cs) ≡ s
+    → solid-read (reading Accepted used s ps cs) ≡ s
 solid-back used s ps cs p c = λ i. record {
   points = take-at (s .points) (drop (length (s .points)) ps) (3 * vertices s) (whole (length (s .points)) p) i;
   corners = take-at (s .corners) (drop (length (s .corners)) cs) (3 * facets s) (whole (length (s .corners)) c) i;
@@ -70,21 +70,21 @@ same-solid s lent z held ps cs hp hc =
 -- ---- read, then written
 
 -- an accepted file: the solid that it is read as, and that its bytes are that solid's file
-pub record Accepted (bs : List ℕ) (ps : List Float) (cs : List ℕ) : Type 0 where
+pub record AcceptedFile (bs : List ℕ) (ps : List Float) (cs : List ℕ) : Type 0 where
   pub used : ℕ
   pub solid : Solid
   pub follows : layout bs ≡ laid used (solid .points) (solid .corners)
-  pub admitted : admission solid ≡ accepted
+  pub admitted : admission solid ≡ Accepted
   pub held : All F64 (solid .points)
   pub room-points : length (solid .points) ≤ length ps
   pub room-corners : length (solid .corners) ≤ length cs
-  pub reads : read bs ps cs ≡ reading accepted used solid ps cs
+  pub reads : read bs ps cs ≡ reading Accepted used solid ps cs
   pub left : solid-read (read bs ps cs) ≡ solid
   pub within : used ≤ length bs
   pub bytes : file solid ≡ take used bs
 
 module _ (bs : List ℕ) (all : All Byte bs) where
-  pub accepted-file : (ps : List Float) (cs : List ℕ) → (read bs ps cs) .answer ≡ 0 → Accepted bs ps cs
+  pub accepted-file : (ps : List Float) (cs : List ℕ) → (read bs ps cs) .answer ≡ 0 → AcceptedFile bs ps cs
   accepted-file ps cs z =
       let (used, s, l, v) = read-success bs ps cs z in
       let (vs, fs, f, p, c) = layout-follows bs used (s .points) (s .corners) l in

@@ -12,7 +12,7 @@ use Rattle.sums.proofs.Threes.{in-threes, third-threes, rest-threes, flat-three
 use Rattle.points.specs.declared.Point.{Point}
 use Rattle.points.specs.declared.Axis.the-variants.{X, Y, Z}
 use Rattle.points.specs.Points.{coordinate, coordinates, zero-number as O}
-use Rattle.solids.specs.Refusals.{accepted}
+use Rattle.solids.specs.declared.Verdict.the-variants.{Accepted}
 use Rattle.solids.specs.Solids.{Solid, vertices, facets, vertex, corner}
 use Rattle.solids.specs.Admission.{admission}
 use Rattle.solids.proofs.Admitted.{Proper, Passed, passed}
@@ -113,7 +113,7 @@ module _ (s : Solid) (vs : List Point) (fs : List Three) (h : Shows s vs fs) whe
   pub storable-vertices : All F64 (s .points) → All (λ v. Storable (Vx v)) vs
   storable-vertices a = all-of-flatMap F64 coordinates vs (subst (All F64) (h .points) a)
 
-  pub storable-facets : admission s ≡ accepted → All (λ t. Storable (facet-record t)) fs
+  pub storable-facets : admission s ≡ Accepted → All (λ t. Storable (facet-record t)) fs
   storable-facets e = each-laid c0 c1 c2 fs s (h .corners) (λ p q r. Storable (Fc p q r)) (λ f l. small (p .proper f l))
     where
       p : Passed s

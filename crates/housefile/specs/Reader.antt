@@ -8,7 +8,9 @@ use lib.Dec.{ltb}
 use lib.Ieee.{Float}
 use Rattle.sums.specs.Lists.{onto}
 use Rattle.points.specs.Points.{coordinates}
-use Rattle.solids.specs.Refusals.{Verdict, accepted, refused, given, in-order}
+use Rattle.solids.specs.declared.Verdict.{Verdict}
+use Rattle.solids.specs.declared.Verdict.the-variants.{Accepted, Refused}
+use Rattle.solids.specs.Refusals.{given, in-order}
 use Rattle.solids.specs.Solids.{Solid, vertices, facets}
 use Rattle.solids.specs.Admission.{check-sizes, check-blanks, check-limit, check-corners, check-closure}
 use Rattle.housefile.specs.declared.Read.{Read}
@@ -63,9 +65,9 @@ abbrev pub unread : ℕ → List Float → List ℕ → Reading
 unread n ps cs = record { answer = n; vertices = 0; facets = 0; used = 0; points = ps; corners = cs }
 
 abbrev pub reading : Verdict → ℕ → Solid → List Float → List ℕ → Reading
-reading accepted used s ps cs =
+reading Accepted used s ps cs =
     record { answer = 0; vertices = vertices s; facets = facets s; used = used; points = onto (s .points) ps; corners = onto (s .corners) cs }
-reading (refused n) used s ps cs = unread n ps cs
+reading (Refused n) used s ps cs = unread n ps cs
 
 -- 8: "a lent list is too short for the answer"
 unfoldable pub too-short : List Float → List ℕ → Solid → Bool

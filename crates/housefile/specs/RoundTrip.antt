@@ -7,7 +7,7 @@ use lib.ListN.{length, take}
 use lib.Dec.{T}
 use lib.Ieee.{Float, binary64, fits}
 use Rattle.sums.specs.Lists.{onto}
-use Rattle.solids.specs.Refusals.{accepted}
+use Rattle.solids.specs.declared.Verdict.the-variants.{Accepted}
 use Rattle.solids.specs.Solids.{Solid, vertices, facets}
 use Rattle.solids.specs.Admission.{admission}
 use Rattle.housefile.specs.Reader.{Reading, laid, layout, read}
@@ -27,7 +27,7 @@ solid-read r = record { points = take (3 * r .vertices) (r .points); corners = t
 
 pub record RoundTrip : Type 0 where
   -- an admitted solid's file, whatever stands behind it, is read as that solid, given room
-  pub written-then-read : (s : Solid) → admission s ≡ accepted → ((x : Float) → List·Memᴰ x (s .points) → F64 x)
+  pub written-then-read : (s : Solid) → admission s ≡ Accepted → ((x : Float) → List·Memᴰ x (s .points) → F64 x)
       → (rest : List ℕ) (ps : List Float) (cs : List ℕ) → length (s .points) ≤ length ps → length (s .corners) ≤ length cs
       → read (file s ++ rest) ps cs
       ≡ record {

@@ -5,7 +5,9 @@ use mathlib.Core.List.{List, [], _∷_, _++_, flatMap}
 use lib.ListN.{length}
 use lib.Dec.{ltb}
 use Rattle.sums.specs.Lists.{upTo, onto}
-use Rattle.solids.specs.Refusals.{Verdict, accepted, refused, given, in-order}
+use Rattle.solids.specs.declared.Verdict.{Verdict}
+use Rattle.solids.specs.declared.Verdict.the-variants.{Accepted, Refused}
+use Rattle.solids.specs.Refusals.{given, in-order}
 use Rattle.solids.specs.Solids.{Solid, vertices, facets, vertex, corner}
 use Rattle.solids.specs.Admission.{admission}
 use Rattle.housefile.specs.declared.Written.{Written}
@@ -31,8 +33,8 @@ abbrev pub unwritten : ℕ → List ℕ → Writing
 unwritten n old = record { answer = n; used = 0; bytes = old }
 
 abbrev pub writing : Verdict → List ℕ → List ℕ → Writing
-writing accepted new old = record { answer = 0; used = length new; bytes = onto new old }
-writing (refused n) new old = unwritten n old
+writing Accepted new old = record { answer = 0; used = length new; bytes = onto new old }
+writing (Refused n) new old = unwritten n old
 
 -- "The writer checks 1 to 6, then 8."
 unfoldable pub write : Solid → List ℕ → Writing

@@ -6,14 +6,14 @@ use native.Mathlib.Omega.{arith}
 use lib.Ieee.{Float}
 use lib.ListN.{length, replicate, length-replicate}
 use Rattle.solids.specs.Solids.{Solid, solid, facets, edges}
-use Rattle.solids.specs.Refusals.{accepted}
+use Rattle.solids.specs.declared.Verdict.the-variants.{Accepted}
 use Rattle.solids.specs.Admission.{admission}
 use Rattle.solids.proofs.Admitted.{Passed, passed}
 use Rattle.solids.proofs.Closure.{named}
 use Rattle.edges.specs.Words.{Listed}
 use Rattle.building.specs.Table as T
 use Rattle.tables.specs.Filled.{sizes}
-use Rattle.tables.proofs.Room.{edges-room}
+use Rattle.solids.proofs.Room.{edges-room}
 use Rattle.tables.proofs.Good.{sized}
 use Rattle.slots.specs.Words.{Ready}
 
@@ -40,7 +40,7 @@ made-ready points corners p listed =
     }
 
 -- ---- two solids
-module _ (a b : Solid) (ok-a : admission a ≡ accepted) (ok-b : admission b ≡ accepted) where
+module _ (a b : Solid) (ok-a : admission a ≡ Accepted) (ok-b : admission b ≡ Accepted) where
   pub admitted-sized : T.Sized (sizes a b)
   admitted-sized = sized a b (passed a ok-a) (passed b ok-b)
 

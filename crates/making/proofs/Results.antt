@@ -13,7 +13,7 @@ use Rattle.sums.specs.Lists.{keep, nonzero, onto}
 use Rattle.sums.proofs.Tests.{or-false}
 use Rattle.sums.proofs.Threes.{length-threes}
 use Rattle.solids.specs.Solids.{Solid}
-use Rattle.solids.specs.Refusals.{accepted}
+use Rattle.solids.specs.declared.Verdict.the-variants.{Accepted}
 use Rattle.solids.specs.Admission.{admission}
 use Rattle.solids.proofs.Admitted.{passed}
 use Rattle.results.specs.declared.Operation.{Operation}
@@ -44,7 +44,7 @@ module _ (op : Operation) (a b : Solid) where
       let h : k ≡ rank (inclusions op a b) (length (inclusions op a b)) = g ∙ ap (λ l. rank l (length l)) e in
       (f ∙ ap ranks e ∙ ranks-numbers op a b, numbered op a b k h, omega (arith, h, rank-few (inclusions op a b), long-inclusions op a b, few-slots s))
 
-  module _ (ok-a : admission a ≡ accepted) (ok-b : admission b ≡ accepted) {inc : List ℤ} {num hs : List ℕ} {z : Sizes} (of-z : z ≡ sizes a b) (of-hs : hs ≡ halves a b) (of-inc : inc ≡ inclusions op a b) (of-num : num ≡ numbers op a b) where
+  module _ (ok-a : admission a ≡ Accepted) (ok-b : admission b ≡ Accepted) {inc : List ℤ} {num hs : List ℕ} {z : Sizes} (of-z : z ≡ sizes a b) (of-hs : hs ≡ halves a b) (of-inc : inc ≡ inclusions op a b) (of-num : num ≡ numbers op a b) where
     abbrev ts : List Triangle
     ts = T.triangles (T.table inc num) hs z
 

@@ -11,7 +11,7 @@ ghost use lib.Dec.{ltb};
 ghost use lib.ListN.{length, take};
 ghost use Rattle.sums.specs.Lists.{keep, nonzero, onto};
 ghost use Rattle.solids.specs.Solids as So;
-ghost use Rattle.solids.specs.Refusals as Re;
+ghost use Rattle.solids.specs.declared.Verdict.the-variants.{Accepted};
 ghost use Rattle.solids.specs.Admission as Ad;
 ghost use Rattle.results.specs.Triangles as Tr;
 ghost use Rattle.results.specs.Operation as Op;
@@ -35,7 +35,7 @@ fn tables(
     inc: &mut [i16],
     num: &mut [u32],
 ) -> usize
-    requires { ⌜ (Ad.admission (So.solid (now ap) (now ac)) ≡ Re.accepted) × (Ad.admission (So.solid (now bp) (now bc)) ≡ Re.accepted) ⌝ }
+    requires { ⌜ (Ad.admission (So.solid (now ap) (now ac)) ≡ Accepted) × (Ad.admission (So.solid (now bp) (now bc)) ≡ Accepted) ⌝ }
     requires { ⌜ Wo.Ready (now ap) (now ac) (now ae) × Wo.Ready (now bp) (now bc) (now be) ⌝ }
     requires { ⌜ (z ≡ Fi.sizes (So.solid (now ap) (now ac)) (So.solid (now bp) (now bc))) × Ta.Sized z × (length (now inc) ≡ Ta.total z) × (length (now num) ≡ Ta.total z) ⌝ }
     requires { ⌜ now halves ≡ Fi.halves (So.solid (now ap) (now ac)) (So.solid (now bp) (now bc)) ⌝ }
@@ -129,7 +129,7 @@ pub fn make(
     corners: &mut [u32],
     origins: &mut [u32],
 ) -> Made
-    requires { ⌜ (Ad.admission (So.solid (now ap) (now ac)) ≡ Re.accepted) × (Ad.admission (So.solid (now bp) (now bc)) ≡ Re.accepted) ⌝ }
+    requires { ⌜ (Ad.admission (So.solid (now ap) (now ac)) ≡ Accepted) × (Ad.admission (So.solid (now bp) (now bc)) ≡ Accepted) ⌝ }
     requires { ⌜ Wo.Ready (now ap) (now ac) (now ae) × Wo.Ready (now bp) (now bc) (now be) ⌝ }
     requires { ⌜ (z ≡ Fi.sizes (So.solid (now ap) (now ac)) (So.solid (now bp) (now bc))) × (length (now inc) ≡ Ta.total z) × (length (now num) ≡ Ta.total z) ⌝ }
     requires { ⌜ now halves ≡ Fi.halves (So.solid (now ap) (now ac)) (So.solid (now bp) (now bc)) ⌝ }
@@ -181,7 +181,7 @@ pub fn make_in_fronts(
     corners: &mut [u32],
     origins: &mut [u32],
 ) -> Made
-    requires { ⌜ (Ad.admission (So.solid (now ap) (now ac)) ≡ Re.accepted) × (Ad.admission (So.solid (now bp) (now bc)) ≡ Re.accepted) ⌝ }
+    requires { ⌜ (Ad.admission (So.solid (now ap) (now ac)) ≡ Accepted) × (Ad.admission (So.solid (now bp) (now bc)) ≡ Accepted) ⌝ }
     requires { ⌜ Wo.Ready (now ap) (now ac) (now ae) × Wo.Ready (now bp) (now bc) (now be) ⌝ }
     requires { ⌜ (z ≡ Fi.sizes (So.solid (now ap) (now ac)) (So.solid (now bp) (now bc))) × (Ta.total z ≤ length (now inc)) × (Ta.total z ≤ length (now num)) ⌝ }
     requires { ⌜ (take (9 * (z .fa + z .fb)) (now halves) ≡ Fi.halves (So.solid (now ap) (now ac)) (So.solid (now bp) (now bc))) × (4608 ≤ length (now halves)) ⌝ }

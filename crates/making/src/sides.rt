@@ -6,7 +6,7 @@ ghost use lib.ListN.{length, take};
 ghost use lib.Seq.{sets};
 ghost use Rattle.solids.specs.Solids as So;
 ghost use Rattle.solids.specs.Admission as Ad;
-ghost use Rattle.solids.specs.Refusals as Re;
+ghost use Rattle.solids.specs.declared.Verdict.the-variants.{Accepted};
 ghost use Rattle.building.specs.Table as Ta;
 ghost use Rattle.tables.specs.Filled as Fi;
 ghost use Rattle.slots.specs.Words as Wo;
@@ -19,7 +19,7 @@ fn ready(
     halves: &mut [u32],
     at: usize,
 ) -> usize
-    requires { ⌜ Ad.admission (So.solid (now points) (now corners)) ≡ Re.accepted ⌝ }
+    requires { ⌜ Ad.admission (So.solid (now points) (now corners)) ≡ Accepted ⌝ }
     requires { ⌜ length (now ends) ≡ 768 ⌝ }
     requires { ⌜ at + 9 * So.facets (So.solid (now points) (now corners)) ≤ length (now halves) ⌝ }
     ensures ready { λ r. ⌜ Wo.Ready (now (points .entry)) (now (corners .entry)) (now (ends .exit)) ⌝ }
@@ -66,7 +66,7 @@ pub fn both(
     be: &mut [u32; 768],
     halves: &mut [u32],
 ) -> Sizes
-    requires { ⌜ (Ad.admission (So.solid (now ap) (now ac)) ≡ Re.accepted) × (Ad.admission (So.solid (now bp) (now bc)) ≡ Re.accepted) ⌝ }
+    requires { ⌜ (Ad.admission (So.solid (now ap) (now ac)) ≡ Accepted) × (Ad.admission (So.solid (now bp) (now bc)) ≡ Accepted) ⌝ }
     requires { ⌜ (length (now ae) ≡ 768) × (length (now be) ≡ 768) × (4608 ≤ length (now halves)) ⌝ }
     ensures ready_a { λ r. ⌜ Wo.Ready (now (ap .entry)) (now (ac .entry)) (now (ae .exit)) ⌝ }
     ensures ready_b { λ r. ⌜ Wo.Ready (now (bp .entry)) (now (bc .entry)) (now (be .exit)) ⌝ }

@@ -3,12 +3,13 @@ use building::Sizes;
 use results::Chosen;
 use results::Made;
 use results::Operation;
+use solids::Verdict;
 ghost use mathlib.Core.Path.{_≡_};
 ghost use Prim.Native.Nat.{_+_, _*_, _≤_};
 ghost use lib.ListN.{length, take};
 ghost use Rattle.solids.specs.Solids as So;
 ghost use Rattle.solids.specs.Admission as Ad;
-ghost use Rattle.solids.specs.Refusals as Re;
+ghost use Rattle.solids.specs.declared.Verdict.the-variants.{Accepted};
 ghost use Rattle.results.specs.Operation as Op;
 ghost use Rattle.building.specs.Table as Ta;
 ghost use Rattle.tables.specs.Filled as Fi;
@@ -29,7 +30,7 @@ fn in_small(
     corners: &mut [u32],
     origins: &mut [u32],
 ) -> Made
-    requires { ⌜ (Ad.admission (So.solid (now ap) (now ac)) ≡ Re.accepted) × (Ad.admission (So.solid (now bp) (now bc)) ≡ Re.accepted) ⌝ }
+    requires { ⌜ (Ad.admission (So.solid (now ap) (now ac)) ≡ Accepted) × (Ad.admission (So.solid (now bp) (now bc)) ≡ Accepted) ⌝ }
     requires { ⌜ Wo.Ready (now ap) (now ac) (now ae) × Wo.Ready (now bp) (now bc) (now be) ⌝ }
     requires { ⌜ (z ≡ Fi.sizes (So.solid (now ap) (now ac)) (So.solid (now bp) (now bc))) × (Ta.total z ≤ 4096) ⌝ }
     requires { ⌜ (take (9 * (z .fa + z .fb)) (now halves) ≡ Fi.halves (So.solid (now ap) (now ac)) (So.solid (now bp) (now bc))) × (4608 ≤ length (now halves)) ⌝ }
@@ -69,7 +70,7 @@ fn in_large(
     corners: &mut [u32],
     origins: &mut [u32],
 ) -> Made
-    requires { ⌜ (Ad.admission (So.solid (now ap) (now ac)) ≡ Re.accepted) × (Ad.admission (So.solid (now bp) (now bc)) ≡ Re.accepted) ⌝ }
+    requires { ⌜ (Ad.admission (So.solid (now ap) (now ac)) ≡ Accepted) × (Ad.admission (So.solid (now bp) (now bc)) ≡ Accepted) ⌝ }
     requires { ⌜ Wo.Ready (now ap) (now ac) (now ae) × Wo.Ready (now bp) (now bc) (now be) ⌝ }
     requires { ⌜ (z ≡ Fi.sizes (So.solid (now ap) (now ac)) (So.solid (now bp) (now bc))) × (Ta.total z ≤ 196864) ⌝ }
     requires { ⌜ (take (9 * (z .fa + z .fb)) (now halves) ≡ Fi.halves (So.solid (now ap) (now ac)) (So.solid (now bp) (now bc))) × (4608 ≤ length (now halves)) ⌝ }
@@ -105,7 +106,7 @@ fn admitted(
     corners: &mut [u32],
     origins: &mut [u32],
 ) -> Made
-    requires { ⌜ (Ad.admission (So.solid (now ap) (now ac)) ≡ Re.accepted) × (Ad.admission (So.solid (now bp) (now bc)) ≡ Re.accepted) ⌝ }
+    requires { ⌜ (Ad.admission (So.solid (now ap) (now ac)) ≡ Accepted) × (Ad.admission (So.solid (now bp) (now bc)) ≡ Accepted) ⌝ }
     ensures { λ r. ⌜ Op.called r (Op.lists (now (points .exit)) (now (corners .exit)) (now (origins .exit))) ≡ Op.operate op (So.solid (now (ap .entry)) (now (ac .entry))) (So.solid (now (bp .entry)) (now (bc .entry))) (Op.lists (now (points .entry)) (now (corners .entry)) (now (origins .entry))) ⌝ }
 {
     let mut ae = [0u32; 768];
@@ -158,12 +159,12 @@ fn checked(
     ensures { λ r. ⌜ Op.called r (Op.lists (now (points .exit)) (now (corners .exit)) (now (origins .exit))) ≡ Op.operate op (So.solid (now (ap .entry)) (now (ac .entry))) (So.solid (now (bp .entry)) (now (bc .entry))) (Op.lists (now (points .entry)) (now (corners .entry)) (now (origins .entry))) ⌝ }
 {
     let of_a = checks::admission::admit(ap, ac);
-    if of_a != 0 {
-        return making::refused(of_a);
+    if let Verdict::Refused(n) = of_a {
+        return making::refused(n);
     }
     let of_b = checks::admission::admit(bp, bc);
-    if of_b != 0 {
-        return making::refused(of_b);
+    if let Verdict::Refused(m) = of_b {
+        return making::refused(m);
     }
     admitted(op, ap, ac, bp, bc, points, corners, origins)
 }

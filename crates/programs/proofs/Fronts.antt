@@ -1,6 +1,6 @@
 -- What two walks' lists come to is what their files do: where all is kept the fronts are the files' solids, and where not, both are refused by 2.
 use mathlib.Core.Path.{_≡_, refl, sym, ap, ap₂, _∙_, subst}
-use mathlib.Core.Bool.{Bool, true, false, cond}
+use mathlib.Core.Bool.{Bool, true, false}
 use mathlib.Core.List.{List}
 use Prim.Native.Nat.{ℕ, _+_, _≤_}
 use native.Mathlib.Omega.{arith}
@@ -8,7 +8,9 @@ use lib.ListN.{length, drop}
 use lib.Ieee.{Float}
 use borrow.Author.Tests.{ne-eqb, eq-eqb}
 use Rattle.sums.proofs.Tests.{never}
-use Rattle.solids.specs.Refusals.{Verdict, accepted, refused, in-order}
+use Rattle.solids.specs.declared.Verdict.{Verdict}
+use Rattle.solids.specs.declared.Verdict.the-variants.{Accepted, Refused}
+use Rattle.solids.specs.Refusals.{in-order}
 use Rattle.solids.specs.Solids.{Solid, solid}
 use Rattle.solids.specs.Admission.{admission}
 use Rattle.solids.proofs.Orders.{then-2}
@@ -18,7 +20,6 @@ use Rattle.results.specs.Inclusion.{chosen}
 use Rattle.results.specs.Operation.{refusal, operate, operation}
 use Rattle.results.proofs.Refusals.{by-code, then-A, then-B}
 use Rattle.housefile.specs.Reader.{Layout, fault, laid, layout}
-use Rattle.housefile.proofs.Refusals.{Numbered, admission-numbered}
 use Rattle.housefile.proofs.Grammar.{layout-follows}
 use Rattle.housefile.proofs.Files.{follows-within}
 use Rattle.files.specs.declared.Walk.{Walk}
@@ -29,7 +30,7 @@ use Rattle.programs.specs.Words.{front, kept-admission, of-walks, of-byt
 
 -- ---- one walk
 module _ (w : Walk) (ps : List Float) (cs : List ℕ) where
-  kept-many : many w ≡ true → kept-admission w ps cs ≡ refused 2
+  kept-many : many w ≡ true → kept-admission w ps cs ≡ Refused 2
   unfolding kept-admission
   kept-many e = rw e
 
@@ -37,15 +38,7 @@ module _ (w : Walk) (ps : List Float) (cs : List ℕ) where
   unfolding kept-admission
   kept-few e = rw e
 
-  pub kept-numbered : Numbered (kept-admission w ps cs)
-  unfolding kept-admission
-  kept-numbered = by-many (many w)
-    where
-      by-many : (b : Bool) → Numbered (cond b (refused 2) (admission (front w ps cs)))
-      by-many true e = absurd (omega arith)
-      by-many false e = admission-numbered (front w ps cs) e
-
-  pub accepted-few : kept-admission w ps cs ≡ accepted → many w ≡ false
+  pub accepted-few : kept-admission w ps cs ≡ Accepted → many w ≡ false
   accepted-few a = by-many (many w) refl
     where
       by-many : (b : Bool) → many w ≡ b → many w ≡ false
@@ -67,15 +60,15 @@ module _ (w : Walk) (ps : List Float) (cs : List ℕ) where
 
 -- ---- two walks
 module _ (code : ℕ) (w : Walk) (ps : List Float) (cs : List ℕ) (v : Walk) (qs : List Float) (es : List ℕ) where
-  pub then-A-kept : (n : ℕ) → kept-admission w ps cs ≡ refused n → of-walks code w ps cs v qs es ≡ refusal n room
+  pub then-A-kept : (n : ℕ) → kept-admission w ps cs ≡ Refused n → of-walks code w ps cs v qs es ≡ refusal n room
   unfolding of-walks in-order
   then-A-kept n e = rw e
 
-  pub then-B-kept : (n : ℕ) → kept-admission w ps cs ≡ accepted → kept-admission v qs es ≡ refused n → of-walks code w ps cs v qs es ≡ refusal n room
+  pub then-B-kept : (n : ℕ) → kept-admission w ps cs ≡ Accepted → kept-admission v qs es ≡ Refused n → of-walks code w ps cs v qs es ≡ refusal n room
   unfolding of-walks in-order
   then-B-kept n d e = rw (d, e)
 
-  pub then-operation : kept-admission w ps cs ≡ accepted → kept-admission v qs es ≡ accepted
+  pub then-operation : kept-admission w ps cs ≡ Accepted → kept-admission v qs es ≡ Accepted
       → of-walks code w ps cs v qs es ≡ operation code (front w ps cs) (front v qs es) room
   unfolding of-walks in-order
   then-operation d e = rw (d, e)
@@ -89,10 +82,10 @@ module _ (code : ℕ) (w : Walk) (ps : List Float) (cs : List ℕ) (v : Walk) (q
     b = solid ys gs
 
     by-verdicts : (m n : Verdict) → kept-admission w ps cs ≡ m → kept-admission v qs es ≡ n → of-walks code w ps cs v qs es ≡ operate op a b room
-    by-verdicts (refused k) n d e = then-A-kept k d ∙ sym (then-A a b room op k (sym (kept-found w ps cs i xs ds f) ∙ d))
-    by-verdicts accepted (refused k) d e =
+    by-verdicts (Refused k) n d e = then-A-kept k d ∙ sym (then-A a b room op k (sym (kept-found w ps cs i xs ds f) ∙ d))
+    by-verdicts Accepted (Refused k) d e =
         then-B-kept k d e ∙ sym (then-B a b room op k (sym (kept-found w ps cs i xs ds f) ∙ d) (sym (kept-found v qs es j ys gs g) ∙ e))
-    by-verdicts accepted accepted d e =
+    by-verdicts Accepted Accepted d e =
         then-operation d e
         ∙ ap₂ (λ s t. operation code s t room)
         (front-found w ps cs i xs ds f (accepted-few w ps cs d))

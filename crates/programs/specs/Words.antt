@@ -6,7 +6,9 @@ use mathlib.Core.List.{List, [], _∷_, _++_}
 use Prim.Native.Nat.{ℕ, _+_, _*_}
 use lib.ListN.{length, take}
 use lib.Ieee.{Float}
-use Rattle.solids.specs.Refusals.{Verdict, accepted, refused, in-order}
+use Rattle.solids.specs.declared.Verdict.{Verdict}
+use Rattle.solids.specs.declared.Verdict.the-variants.{Accepted, Refused}
+use Rattle.solids.specs.Refusals.{in-order}
 use Rattle.solids.specs.Solids.{Solid, solid}
 use Rattle.solids.specs.Admission.{admission}
 use Rattle.results.specs.declared.Operation.{Operation}
@@ -24,11 +26,11 @@ front w ps cs = solid (take (3 * w .vertices) ps) (take (3 * w .facets) cs)
 
 -- its admission; of too many vertices or facets not all are kept
 unfoldable pub kept-admission : Walk → List Float → List ℕ → Verdict
-kept-admission w ps cs = cond (many w) (refused 2) (admission (front w ps cs))
+kept-admission w ps cs = cond (many w) (Refused 2) (admission (front w ps cs))
 
 abbrev pub past : Verdict → Outcome → Outcome
-past accepted o = o
-past (refused n) o = refusal n room
+past Accepted o = o
+past (Refused n) o = refusal n room
 
 -- "then come A's other refusals, B's", and past them the operation
 unfoldable pub of-walks : ℕ → Walk → List Float → List ℕ → Walk → List Float → List ℕ → Outcome

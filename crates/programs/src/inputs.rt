@@ -4,9 +4,9 @@ use checks::admission;
 use files::Walk;
 use files::reader;
 use results::Made;
+use solids::Verdict;
 ghost use mathlib.Core.Path.{_≡_};
 ghost use lib.ListN.{length};
-ghost use Rattle.solids.specs.Refusals as Re;
 ghost use Rattle.solids.specs.Solids as So;
 ghost use Rattle.results.specs.declared.Operation.{Operation};
 ghost use Rattle.results.specs.declared.Chosen.the-variants.{Known};
@@ -45,17 +45,17 @@ fn operated(code: u32, ap: &[f64], ac: &[u32], bp: &[f64], bc: &[u32]) -> Made
     )
 }
 
-// The answer of a file's solid. Too many vertices or facets are counted and not all kept: 2 is known by their numbers, and no earlier check refuses
+// The verdict on a file's solid. Too many vertices or facets are counted and not all kept: 2 is known by their numbers, and no earlier check refuses
 // what a file holds, lists of whole threes.
-fn admitted(w: Walk, points: &[f64], corners: &[u32]) -> u32
+fn admitted(w: Walk, points: &[f64], corners: &[u32]) -> Verdict
     requires { ⌜ (length (now points) ≡ 384) × (length (now corners) ≡ 768) ⌝ }
-    ensures { λ r. ⌜ r ≡ Re.answer (Wo.kept-admission w (now (points .entry)) (now (corners .entry))) ⌝ }
+    ensures { λ r. ⌜ r ≡ Wo.kept-admission w (now (points .entry)) (now (corners .entry)) ⌝ }
 {
     if w.vertices > 128 {
-        return 2;
+        return Verdict::Refused(2);
     }
     if w.facets > 256 {
-        return 2;
+        return Verdict::Refused(2);
     }
     let n = 3 * w.vertices;
     let m = 3 * w.facets;
@@ -75,13 +75,13 @@ fn of_walks(
     requires { ⌜ (length (now ap) ≡ 384) × (length (now ac) ≡ 768) × (length (now bp) ≡ 384) × (length (now bc) ≡ 768) ⌝ }
     ensures { λ r. ⌜ r ≡ An.made (Wo.of-walks code first (now (ap .entry)) (now (ac .entry)) second (now (bp .entry)) (now (bc .entry))) ⌝ }
 {
-    let a = admitted(first, ap, ac);
-    if a != 0 {
-        return refused(a);
+    let of_a = admitted(first, ap, ac);
+    if let Verdict::Refused(n) = of_a {
+        return refused(n);
     }
-    let b = admitted(second, bp, bc);
-    if b != 0 {
-        return refused(b);
+    let of_b = admitted(second, bp, bc);
+    if let Verdict::Refused(n) = of_b {
+        return refused(n);
     }
     let i = 3 * first.vertices;
     let j = 3 * first.facets;

@@ -2,7 +2,8 @@
 use mathlib.Core.Path.{_≡_, refl}
 use Prim.Native.Nat.{ℕ, suc}
 use mathlib.Core.Bool.{true, false}
-use Rattle.solids.specs.Refusals.{accepted, refused, in-order}
+use Rattle.solids.specs.declared.Verdict.the-variants.{Accepted, Refused}
+use Rattle.solids.specs.Refusals.{in-order}
 use Rattle.solids.specs.Solids.{Solid}
 use Rattle.solids.specs.Admission.{admission}
 use Rattle.results.specs.declared.Operation.{Operation}
@@ -21,18 +22,18 @@ module _ (a b : Solid) (l : Lent) where
     unfolding operation
     by-code code known = rw known
 
-    pub then-A : (n : ℕ) → admission a ≡ refused n → operate op a b l ≡ refusal n l
+    pub then-A : (n : ℕ) → admission a ≡ Refused n → operate op a b l ≡ refusal n l
     unfolding operate in-order
     then-A n e = rw e
 
-    pub then-B : (n : ℕ) → admission a ≡ accepted → admission b ≡ refused n → operate op a b l ≡ refusal n l
+    pub then-B : (n : ℕ) → admission a ≡ Accepted → admission b ≡ Refused n → operate op a b l ≡ refusal n l
     unfolding operate in-order
     then-B n d e = rw (d, e)
 
-    pub last-8 : admission a ≡ accepted → admission b ≡ accepted → too-short l (result op a b) ≡ true → operate op a b l ≡ refusal 8 l
+    pub last-8 : admission a ≡ Accepted → admission b ≡ Accepted → too-short l (result op a b) ≡ true → operate op a b l ≡ refusal 8 l
     unfolding operate in-order
     last-8 d e h = rw (d, e, h)
 
-    pub else-done : admission a ≡ accepted → admission b ≡ accepted → too-short l (result op a b) ≡ false → operate op a b l ≡ success (result op a b) l
+    pub else-done : admission a ≡ Accepted → admission b ≡ Accepted → too-short l (result op a b) ≡ false → operate op a b l ≡ success (result op a b) l
     unfolding operate in-order
     else-done d e h = rw (d, e, h)

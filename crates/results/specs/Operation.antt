@@ -7,7 +7,9 @@ use lib.ListN.{length}
 use lib.Dec.{ltb}
 use lib.Ieee.{Float}
 use Rattle.sums.specs.Lists.{onto}
-use Rattle.solids.specs.Refusals.{Verdict, accepted, refused, given, in-order}
+use Rattle.solids.specs.declared.Verdict.{Verdict}
+use Rattle.solids.specs.declared.Verdict.the-variants.{Accepted, Refused}
+use Rattle.solids.specs.Refusals.{given, in-order}
 use Rattle.solids.specs.Solids.{Solid}
 use Rattle.solids.specs.Admission.{admission}
 use Rattle.results.specs.declared.Made.{Made}
@@ -57,8 +59,8 @@ success r l =
     }
 
 abbrev pub outcome : Verdict → Result → Lent → Outcome
-outcome accepted r l = success r l
-outcome (refused n) r l = refusal n l
+outcome Accepted r l = success r l
+outcome (Refused n) r l = refusal n l
 
 -- "then A by 1 to 6, then B by 1 to 6, then 8"
 unfoldable pub operate : Operation → Solid → Solid → Lent → Outcome

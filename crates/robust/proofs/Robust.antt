@@ -8,7 +8,7 @@ use lib.Ieee.{Float, isNan}
 use mathlib.Core.Bool.{false}
 use Rattle.sums.proofs.Sums.{All, all-at, all-mono}
 use Rattle.sums.proofs.Threes.{third-threes, rest-threes}
-use Rattle.solids.specs.Refusals.{accepted}
+use Rattle.solids.specs.declared.Verdict.the-variants.{Accepted}
 use Rattle.solids.specs.Solids.{Solid, vertices, facets, corner, half-edges, number-of}
 use Rattle.solids.specs.Admission.{beyond, admission}
 use Rattle.solids.proofs.Admitted.{Proper, Passed, passed, admitted}
@@ -75,7 +75,7 @@ module _ (op : Operation) (a b : Solid) (passed-a : Passed a) (passed-b : Passed
   within : All Near (r .points)
   within = result-near op a b (all-near a passed-a) (all-near b passed-b)
 
-  again : vertices r ≤ 128 → facets r ≤ 256 → admission r ≡ accepted
+  again : vertices r ≤ 128 → facets r ≤ 256 → admission r ≡ Accepted
   again v f =
       admitted r
       (record {
@@ -89,7 +89,7 @@ module _ (op : Operation) (a b : Solid) (passed-a : Passed a) (passed-b : Passed
         closed = closed;
       })
 
-robust-result : (code : ℕ) (op : Operation) → chosen code ≡ Known op → (a b : Solid) → admission a ≡ accepted → admission b ≡ accepted
+robust-result : (code : ℕ) (op : Operation) → chosen code ≡ Known op → (a b : Solid) → admission a ≡ Accepted → admission b ≡ Accepted
     → RobustResult code op a b
 robust-result code op known a b ok-a ok-b =
     let pa = passed a ok-a in

@@ -7,7 +7,7 @@ use Prim.Native.Nat.{ℕ, _<_, _≤_}
 use lib.IntN.{ℤ, pos, _+ℤ_}
 use lib.Ieee.{Float, isNan}
 use Rattle.sums.specs.Lists.{turned}
-use Rattle.solids.specs.Refusals.{accepted}
+use Rattle.solids.specs.declared.Verdict.the-variants.{Accepted}
 use Rattle.solids.specs.Solids.{Solid, Half, vertices, facets, corner, half-edges, number-of, edges}
 use Rattle.solids.specs.Admission.{beyond, admission}
 use Rattle.results.specs.declared.Operation.{Operation}
@@ -60,7 +60,7 @@ pub record RobustResult (code : ℕ) (op : Operation) (a b : Solid) : Type 0 whe
   pub within : (x : Float) → List·Memᴰ x (result op a b .points) → beyond x ≡ false
   -- "so the result is admitted wherever its sizes are"
   pub admitted :
-      vertices (solid-of (result op a b)) ≤ 128 → facets (solid-of (result op a b)) ≤ 256 → admission (solid-of (result op a b)) ≡ accepted
+      vertices (solid-of (result op a b)) ≤ 128 → facets (solid-of (result op a b)) ≤ 256 → admission (solid-of (result op a b)) ≡ Accepted
   -- "For each edge of A, the signed ends kept by difference and by intersection add up, vertex by vertex and crossing by crossing"
   pub ends :
       (e : Half) → List·Memᴰ e (edges a)
@@ -71,4 +71,4 @@ pub record Robust : Type 0 where
   pub lower-points : LowerPoints
   -- "For any two admitted solids and any operation"
   pub of-result :
-      (code : ℕ) (op : Operation) → chosen code ≡ Known op → (a b : Solid) → admission a ≡ accepted → admission b ≡ accepted → RobustResult code op a b
+      (code : ℕ) (op : Operation) → chosen code ≡ Known op → (a b : Solid) → admission a ≡ Accepted → admission b ≡ Accepted → RobustResult code op a b

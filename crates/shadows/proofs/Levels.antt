@@ -24,7 +24,7 @@ use Rattle.solids.specs.Table.{facet-S}
 use Rattle.solids.proofs.Admitted.{Passed}
 use Rattle.tables.specs.Filled.{half-list}
 use Rattle.tables.proofs.Halves.{length-half-list}
-use Rattle.tables.proofs.Room.{edges-room}
+use Rattle.solids.proofs.Room.{edges-room}
 use Rattle.slots.specs.Words.{Ready, edge-numbered}
 use Rattle.slots.proofs.Ends.{start-there, stop-there, start-below, stop-below}
 use Rattle.shadows.specs.declared.Level.{Level}

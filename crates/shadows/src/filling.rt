@@ -12,7 +12,7 @@ ghost use lib.IntN.{natAbs};
 ghost use lib.ListN.{length};
 ghost use Rattle.solids.specs.Solids as So;
 ghost use Rattle.solids.specs.Admission as Ad;
-ghost use Rattle.solids.specs.Refusals as Re;
+ghost use Rattle.solids.specs.declared.Verdict.the-variants.{Accepted};
 ghost use Rattle.tables.specs.Filled as Fi;
 ghost use Rattle.slots.specs.Words as Sl;
 ghost use Rattle.shadows.specs.Words as Wo;
@@ -57,7 +57,7 @@ fn vertex_facet(
     below: &[i8],
 ) -> i32
     requires { ⌜ (i < length (now own) / 3) × (length (now own) ≤ 384) × (f < length (now corners) / 3) ⌝ }
-    requires { ⌜ (Ad.admission (So.solid (now points) (now corners)) ≡ Re.accepted) × (now halves ≡ Fi.half-list (So.solid (now points) (now corners))) ⌝ }
+    requires { ⌜ (Ad.admission (So.solid (now points) (now corners)) ≡ Accepted) × (now halves ≡ Fi.half-list (So.solid (now points) (now corners))) ⌝ }
     requires { ⌜ Wo.Whole Level.VertexEdge «as_b» (So.solid (now own) []) (So.solid (now points) (now corners)) (now below) ⌝ }
     ensures { λ r. ⌜ r ≡ Wo.S-at Level.VertexFacet «as_b» (So.solid (now (own .entry)) []) (So.solid (now (points .entry)) (now (corners .entry))) i f ⌝ }
     ensures small { λ r. ⌜ natAbs r ≤ 1 ⌝ }
@@ -113,7 +113,7 @@ fn s_at(
 ) -> i32
     requires { ⌜ Sl.Ready (now own) (now «own_corners») (now «own_ends») × (i < Wo.rows level (So.solid (now own) (now «own_corners»))) ⌝ }
     requires { ⌜ Sl.Ready (now points) (now corners) (now ends) × (j < Wo.columns level (So.solid (now points) (now corners))) ⌝ }
-    requires { ⌜ (Ad.admission (So.solid (now points) (now corners)) ≡ Re.accepted) × (now halves ≡ Fi.half-list (So.solid (now points) (now corners))) ⌝ }
+    requires { ⌜ (Ad.admission (So.solid (now points) (now corners)) ≡ Accepted) × (now halves ≡ Fi.half-list (So.solid (now points) (now corners))) ⌝ }
     requires { ⌜ Wo.Below level «as_b» (So.solid (now own) (now «own_corners»)) (So.solid (now points) (now corners)) (now mine) (now theirs) ⌝ }
     ensures { λ r. ⌜ r ≡ Wo.S-at level «as_b» (So.solid (now (own .entry)) (now («own_corners» .entry))) (So.solid (now (points .entry)) (now (corners .entry))) i j ⌝ }
     ensures small { λ r. ⌜ natAbs r ≤ 1 ⌝ }
@@ -155,7 +155,7 @@ fn fill_row(
 )
     requires { ⌜ Sl.Ready (now own) (now «own_corners») (now «own_ends») × (i < Wo.rows level (So.solid (now own) (now «own_corners»))) ⌝ }
     requires { ⌜ Sl.Ready (now points) (now corners) (now ends) × (many ≡ Wo.columns level (So.solid (now points) (now corners))) × (many ≤ 384) ⌝ }
-    requires { ⌜ (Ad.admission (So.solid (now points) (now corners)) ≡ Re.accepted) × (now halves ≡ Fi.half-list (So.solid (now points) (now corners))) ⌝ }
+    requires { ⌜ (Ad.admission (So.solid (now points) (now corners)) ≡ Accepted) × (now halves ≡ Fi.half-list (So.solid (now points) (now corners))) ⌝ }
     requires { ⌜ Wo.Below level «as_b» (So.solid (now own) (now «own_corners»)) (So.solid (now points) (now corners)) (now mine) (now theirs) ⌝ }
     requires { ⌜ (i < 384) × (384 * i + 384 ≤ length (now table)) ⌝ }
     requires { ⌜ Wo.Rows (now table) (Wo.S-at level «as_b» (So.solid (now own) (now «own_corners»)) (So.solid (now points) (now corners))) i many ⌝ }
@@ -203,7 +203,7 @@ pub fn fill_rows(
 )
     requires { ⌜ Sl.Ready (now own) (now «own_corners») (now «own_ends») × (rows ≡ Wo.rows level (So.solid (now own) (now «own_corners»))) × (rows ≤ 384) ⌝ }
     requires { ⌜ Sl.Ready (now points) (now corners) (now ends) × (many ≡ Wo.columns level (So.solid (now points) (now corners))) × (many ≤ 384) ⌝ }
-    requires { ⌜ (Ad.admission (So.solid (now points) (now corners)) ≡ Re.accepted) × (now halves ≡ Fi.half-list (So.solid (now points) (now corners))) ⌝ }
+    requires { ⌜ (Ad.admission (So.solid (now points) (now corners)) ≡ Accepted) × (now halves ≡ Fi.half-list (So.solid (now points) (now corners))) ⌝ }
     requires { ⌜ Wo.Below level «as_b» (So.solid (now own) (now «own_corners»)) (So.solid (now points) (now corners)) (now mine) (now theirs) ⌝ }
     requires { ⌜ 384 * rows ≤ length (now table) ⌝ }
     ensures { λ r. ⌜ Wo.Whole level «as_b» (So.solid (now (own .entry)) (now («own_corners» .entry))) (So.solid (now (points .entry)) (now (corners .entry))) (now (table .exit)) ⌝ }

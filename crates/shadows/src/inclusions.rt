@@ -14,7 +14,7 @@ ghost use Rattle.sums.specs.Lists.{sumOf, upTo};
 ghost use Rattle.building.specs.Table as Ta;
 ghost use Rattle.solids.specs.Solids as So;
 ghost use Rattle.solids.specs.Admission as Ad;
-ghost use Rattle.solids.specs.Refusals as Re;
+ghost use Rattle.solids.specs.declared.Verdict.the-variants.{Accepted};
 ghost use Rattle.results.specs.Inclusion as In;
 ghost use Rattle.tables.specs.Filled as Fi;
 ghost use Rattle.slots.specs.Words as Sl;
@@ -74,7 +74,7 @@ fn of_edge(
     pairs: &[i8],
 ) -> i32
     requires { ⌜ Sl.Ready (now ap) (now ac) (now ae) × (e < length (So.edges (So.solid (now ap) (now ac)))) × (f < length (now bc) / 3) ⌝ }
-    requires { ⌜ (Ad.admission (So.solid (now bp) (now bc)) ≡ Re.accepted) × (now hb ≡ Fi.half-list (So.solid (now bp) (now bc))) ⌝ }
+    requires { ⌜ (Ad.admission (So.solid (now bp) (now bc)) ≡ Accepted) × (now hb ≡ Fi.half-list (So.solid (now bp) (now bc))) ⌝ }
     requires { ⌜ Wo.Whole Level.VertexFacet true (So.solid (now ap) (now ac)) (So.solid (now bp) (now bc)) (now «of_a») × Wo.Whole Level.EdgeEdge true (So.solid (now ap) (now ac)) (So.solid (now bp) (now bc)) (now pairs) ⌝ }
     ensures { λ r. ⌜ r ≡ In.inclusion op (So.solid (now (ap .entry)) (now (ac .entry))) (So.solid (now (bp .entry)) (now (bc .entry))) (Sl.key-of (So.solid (now (ap .entry)) (now (ac .entry))) (So.solid (now (bp .entry)) (now (bc .entry))) (Slot.EdgeFacet e f)) ⌝ }
     ensures small { λ r. ⌜ natAbs r ≤ 257 ⌝ }
@@ -98,7 +98,7 @@ fn of_facet(
     pairs: &[i8],
 ) -> i32
     requires { ⌜ Sl.Ready (now bp) (now bc) (now be) × (e < length (So.edges (So.solid (now bp) (now bc)))) × (f < length (now ac) / 3) ⌝ }
-    requires { ⌜ (Ad.admission (So.solid (now ap) (now ac)) ≡ Re.accepted) × (now ha ≡ Fi.half-list (So.solid (now ap) (now ac))) ⌝ }
+    requires { ⌜ (Ad.admission (So.solid (now ap) (now ac)) ≡ Accepted) × (now ha ≡ Fi.half-list (So.solid (now ap) (now ac))) ⌝ }
     requires { ⌜ Wo.Whole Level.VertexFacet false (So.solid (now bp) (now bc)) (So.solid (now ap) (now ac)) (now «of_b») × Wo.Whole Level.EdgeEdge true (So.solid (now ap) (now ac)) (So.solid (now bp) (now bc)) (now pairs) ⌝ }
     ensures { λ r. ⌜ r ≡ In.inclusion op (So.solid (now (ap .entry)) (now (ac .entry))) (So.solid (now (bp .entry)) (now (bc .entry))) (Sl.key-of (So.solid (now (ap .entry)) (now (ac .entry))) (So.solid (now (bp .entry)) (now (bc .entry))) (Slot.FacetEdge f e)) ⌝ }
     ensures small { λ r. ⌜ natAbs r ≤ 257 ⌝ }
@@ -122,7 +122,7 @@ fn inclusion_at(
     of_b: &[i8],
     pairs: &[i8],
 ) -> i32
-    requires { ⌜ (Ad.admission (So.solid (now ap) (now ac)) ≡ Re.accepted) × (Ad.admission (So.solid (now bp) (now bc)) ≡ Re.accepted) ⌝ }
+    requires { ⌜ (Ad.admission (So.solid (now ap) (now ac)) ≡ Accepted) × (Ad.admission (So.solid (now bp) (now bc)) ≡ Accepted) ⌝ }
     requires { ⌜ Sl.Ready (now ap) (now ac) (now ae) × Sl.Ready (now bp) (now bc) (now be) ⌝ }
     requires { ⌜ (now ha ≡ Fi.half-list (So.solid (now ap) (now ac))) × (now hb ≡ Fi.half-list (So.solid (now bp) (now bc))) ⌝ }
     requires { ⌜ Wo.Tables (So.solid (now ap) (now ac)) (So.solid (now bp) (now bc)) (now «of_a») (now «of_b») (now pairs) ⌝ }
@@ -155,7 +155,7 @@ fn read_all(
     pairs: &[i8],
     inc: &mut [i16],
 )
-    requires { ⌜ (Ad.admission (So.solid (now ap) (now ac)) ≡ Re.accepted) × (Ad.admission (So.solid (now bp) (now bc)) ≡ Re.accepted) ⌝ }
+    requires { ⌜ (Ad.admission (So.solid (now ap) (now ac)) ≡ Accepted) × (Ad.admission (So.solid (now bp) (now bc)) ≡ Accepted) ⌝ }
     requires { ⌜ Sl.Ready (now ap) (now ac) (now ae) × Sl.Ready (now bp) (now bc) (now be) ⌝ }
     requires { ⌜ (now ha ≡ Fi.half-list (So.solid (now ap) (now ac))) × (now hb ≡ Fi.half-list (So.solid (now bp) (now bc))) ⌝ }
     requires { ⌜ Wo.Tables (So.solid (now ap) (now ac)) (So.solid (now bp) (now bc)) (now «of_a») (now «of_b») (now pairs) ⌝ }
@@ -186,7 +186,7 @@ fn of_vertices(
     on_facets: &mut [i8],
 )
     requires { ⌜ Sl.Ready (now own) (now «own_corners») (now «own_ends») × Sl.Ready (now points) (now corners) (now ends) ⌝ }
-    requires { ⌜ (Ad.admission (So.solid (now points) (now corners)) ≡ Re.accepted) × (now halves ≡ Fi.half-list (So.solid (now points) (now corners))) ⌝ }
+    requires { ⌜ (Ad.admission (So.solid (now points) (now corners)) ≡ Accepted) × (now halves ≡ Fi.half-list (So.solid (now points) (now corners))) ⌝ }
     requires { ⌜ (edges ≡ length (So.edges (So.solid (now points) (now corners)))) × (384 * (length (now own) / 3) ≤ length (now «on_edges»)) × (384 * (length (now own) / 3) ≤ length (now «on_facets»)) ⌝ }
     ensures edges { λ r. ⌜ Wo.Whole Level.VertexEdge «as_b» (So.solid (now (own .entry)) (now («own_corners» .entry))) (So.solid (now (points .entry)) (now (corners .entry))) (now («on_edges» .exit)) ⌝ }
     ensures facets { λ r. ⌜ Wo.Whole Level.VertexFacet «as_b» (So.solid (now (own .entry)) (now («own_corners» .entry))) (So.solid (now (points .entry)) (now (corners .entry))) (now («on_facets» .exit)) ⌝ }
@@ -244,7 +244,7 @@ fn tables(
     of_b: &mut [i8],
     pairs: &mut [i8],
 )
-    requires { ⌜ (Ad.admission (So.solid (now ap) (now ac)) ≡ Re.accepted) × (Ad.admission (So.solid (now bp) (now bc)) ≡ Re.accepted) ⌝ }
+    requires { ⌜ (Ad.admission (So.solid (now ap) (now ac)) ≡ Accepted) × (Ad.admission (So.solid (now bp) (now bc)) ≡ Accepted) ⌝ }
     requires { ⌜ Sl.Ready (now ap) (now ac) (now ae) × Sl.Ready (now bp) (now bc) (now be) ⌝ }
     requires { ⌜ (now ha ≡ Fi.half-list (So.solid (now ap) (now ac))) × (now hb ≡ Fi.half-list (So.solid (now bp) (now bc))) ⌝ }
     requires { ⌜ z ≡ Fi.sizes (So.solid (now ap) (now ac)) (So.solid (now bp) (now bc)) ⌝ }
@@ -290,7 +290,7 @@ fn fill_by(
     pairs: &mut [i8],
     inc: &mut [i16],
 )
-    requires { ⌜ (Ad.admission (So.solid (now ap) (now ac)) ≡ Re.accepted) × (Ad.admission (So.solid (now bp) (now bc)) ≡ Re.accepted) ⌝ }
+    requires { ⌜ (Ad.admission (So.solid (now ap) (now ac)) ≡ Accepted) × (Ad.admission (So.solid (now bp) (now bc)) ≡ Accepted) ⌝ }
     requires { ⌜ Sl.Ready (now ap) (now ac) (now ae) × Sl.Ready (now bp) (now bc) (now be) ⌝ }
     requires { ⌜ now halves ≡ Fi.halves (So.solid (now ap) (now ac)) (So.solid (now bp) (now bc)) ⌝ }
     requires { ⌜ (384 * z .va ≤ length (now ve)) × (384 * z .vb ≤ length (now ev)) ⌝ }
@@ -344,7 +344,7 @@ fn fill_small(
     halves: &[u32],
     inc: &mut [i16],
 )
-    requires { ⌜ (Ad.admission (So.solid (now ap) (now ac)) ≡ Re.accepted) × (Ad.admission (So.solid (now bp) (now bc)) ≡ Re.accepted) ⌝ }
+    requires { ⌜ (Ad.admission (So.solid (now ap) (now ac)) ≡ Accepted) × (Ad.admission (So.solid (now bp) (now bc)) ≡ Accepted) ⌝ }
     requires { ⌜ Sl.Ready (now ap) (now ac) (now ae) × Sl.Ready (now bp) (now bc) (now be) ⌝ }
     requires { ⌜ now halves ≡ Fi.halves (So.solid (now ap) (now ac)) (So.solid (now bp) (now bc)) ⌝ }
     requires { ⌜ (z ≡ Fi.sizes (So.solid (now ap) (now ac)) (So.solid (now bp) (now bc))) × Ta.Sized z × (length (now inc) ≡ Ta.total z) ⌝ }
@@ -387,7 +387,7 @@ fn fill_large(
     halves: &[u32],
     inc: &mut [i16],
 )
-    requires { ⌜ (Ad.admission (So.solid (now ap) (now ac)) ≡ Re.accepted) × (Ad.admission (So.solid (now bp) (now bc)) ≡ Re.accepted) ⌝ }
+    requires { ⌜ (Ad.admission (So.solid (now ap) (now ac)) ≡ Accepted) × (Ad.admission (So.solid (now bp) (now bc)) ≡ Accepted) ⌝ }
     requires { ⌜ Sl.Ready (now ap) (now ac) (now ae) × Sl.Ready (now bp) (now bc) (now be) ⌝ }
     requires { ⌜ now halves ≡ Fi.halves (So.solid (now ap) (now ac)) (So.solid (now bp) (now bc)) ⌝ }
     requires { ⌜ (z ≡ Fi.sizes (So.solid (now ap) (now ac)) (So.solid (now bp) (now bc))) × Ta.Sized z × (length (now inc) ≡ Ta.total z) ⌝ }
@@ -430,7 +430,7 @@ pub fn fill(
     halves: &[u32],
     inc: &mut [i16],
 )
-    requires { ⌜ (Ad.admission (So.solid (now ap) (now ac)) ≡ Re.accepted) × (Ad.admission (So.solid (now bp) (now bc)) ≡ Re.accepted) ⌝ }
+    requires { ⌜ (Ad.admission (So.solid (now ap) (now ac)) ≡ Accepted) × (Ad.admission (So.solid (now bp) (now bc)) ≡ Accepted) ⌝ }
     requires { ⌜ Sl.Ready (now ap) (now ac) (now ae) × Sl.Ready (now bp) (now bc) (now be) ⌝ }
     requires { ⌜ now halves ≡ Fi.halves (So.solid (now ap) (now ac)) (So.solid (now bp) (now bc)) ⌝ }
     requires { ⌜ (z ≡ Fi.sizes (So.solid (now ap) (now ac)) (So.solid (now bp) (now bc))) × Ta.Sized z × (length (now inc) ≡ Ta.total z) ⌝ }

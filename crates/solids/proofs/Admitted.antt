@@ -14,7 +14,7 @@ use Rattle.sums.proofs.UpTo.{all-upTo, mem-upTo}
 use Rattle.sums.proofs.Closed.{closed-of-all}
 use Rattle.points.specs.declared.Point.{Point}
 use Rattle.points.specs.Points.{coordinates}
-use Rattle.solids.specs.Refusals.{accepted}
+use Rattle.solids.specs.declared.Verdict.the-variants.{Accepted}
 use Rattle.solids.specs.Solids.{Solid, Half, vertices, facets, corner, half-edges-of, facet-half-edges, half-edges, number-of, pairs}
 use Rattle.solids.specs.Admission.{uneven, too-many, limit, beyond, too-high, named-twice, faulty, differ}
 use Rattle.solids.specs.Admission.{check-lengths, check-sizes, check-blanks, check-limit, check-corners, check-closure, admission, point-admission}
@@ -142,7 +142,7 @@ module _ (s : Solid) where
       (all-pairs (λ h. differ (half-edges s) h ≡ false) (vertices s) (λ h a b. ap not (eq-eqb _ _ (c h))))
 
   -- ---- both ways
-  pub passed : admission s ≡ accepted → Passed s
+  pub passed : admission s ≡ Accepted → Passed s
   unfolding admission check-lengths check-sizes check-blanks check-limit check-corners check-closure
   passed e =
       let (c1, (c2, (c3, (c4, (c5, (c6, end)))))) = all-accepted _ e in
@@ -160,7 +160,7 @@ module _ (s : Solid) where
         closed = shut r5 (not-given _ _ c6);
       }
 
-  pub admitted : Passed s → admission s ≡ accepted
+  pub admitted : Passed s → admission s ≡ Accepted
   admitted h =
       else-accepted s (even-back (h .points-whole) (h .corners-whole)) (few-back (h .few-vertices) (h .few-facets))
       (false-any isNan (s .points) (h .present)) (false-any beyond (s .points) (h .near))
@@ -172,13 +172,13 @@ pub record Point-passed (v : Point) : Type 0 where
   pub near : All (λ x. beyond x ≡ false) (coordinates v)
 
 module _ (v : Point) where
-  pub point-passed : point-admission v ≡ accepted → Point-passed v
+  pub point-passed : point-admission v ≡ Accepted → Point-passed v
   unfolding point-admission check-blanks check-limit
   point-passed e =
       let (c3, (c4, end)) = all-accepted _ e in
       record { present = any-false isNan (coordinates v) (not-given _ _ c3); near = any-false beyond (coordinates v) (not-given _ _ c4) }
 
-  pub point-admitted : Point-passed v → point-admission v ≡ accepted
+  pub point-admitted : Point-passed v → point-admission v ≡ Accepted
   point-admitted h = point-else-accepted v (false-any isNan (coordinates v) (h .present)) (false-any beyond (coordinates v) (h .near))
 
 -- ---- the limit, "infinities included"

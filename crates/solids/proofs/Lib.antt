@@ -8,4 +8,5 @@ pub mod Limit
 pub mod Blank
 pub mod Tally
 pub mod Closure
-pub mod Answers
+pub mod Room
+pub mod Sizes

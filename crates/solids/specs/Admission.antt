@@ -10,7 +10,8 @@ use lib.Ieee.{Float, fin, lt, neg, isNan}
 use Rattle.sums.specs.Lists.{upTo, any, turned}
 use Rattle.points.specs.declared.Point.{Point}
 use Rattle.points.specs.Points.{coordinates}
-use Rattle.solids.specs.Refusals.{Verdict, answer, given, in-order}
+use Rattle.solids.specs.declared.Verdict.{Verdict}
+use Rattle.solids.specs.Refusals.{answer, given, in-order}
 use Rattle.solids.specs.Solids.{Solid, Half, vertices, facets, corner, half-edges, number-of, pairs}
 
 -- 1: "a list's length is not a multiple of three"
@@ -70,14 +71,17 @@ unfoldable pub admission : Solid → Verdict
 admission s =
     in-order (check-lengths s ∷ check-sizes s ∷ check-blanks (s .points) ∷ check-limit (s .points) ∷ check-corners s ∷ check-closure s ∷ [])
 
--- what the call promises of its answer r
-abbrev pub Admit : Solid → ℕ → Type 0
-Admit s r = r ≡ answer (admission s)
+-- what the call promises of its verdict r, and of the number that it has for C
+abbrev pub Admit : Solid → Verdict → Type 0
+Admit s r = r ≡ admission s
+
+abbrev pub AdmitAnswer : Solid → ℕ → Type 0
+AdmitAnswer s r = r ≡ answer (admission s)
 
 -- "A point count checks the point by 3 and 4"
 unfoldable pub point-admission : Point → Verdict
 point-admission v = in-order (check-blanks (coordinates v) ∷ check-limit (coordinates v) ∷ [])
 
--- what the call promises of its answer r
-abbrev pub AdmitPoint : Point → ℕ → Type 0
-AdmitPoint v r = r ≡ answer (point-admission v)
+-- what the call promises of its verdict r
+abbrev pub AdmitPoint : Point → Verdict → Type 0
+AdmitPoint v r = r ≡ point-admission v

@@ -7,7 +7,9 @@ use Rattle.points.specs.declared.Point.{Point}
 use Rattle.points.specs.declared.Axis.the-variants.{Z}
 use Rattle.crossings.specs.Crossings.{S, vf, fv}
 use Rattle.solids.specs.declared.Counted.{Counted}
-use Rattle.solids.specs.Refusals.{Verdict, accepted, refused, in-order}
+use Rattle.solids.specs.declared.Verdict.{Verdict}
+use Rattle.solids.specs.declared.Verdict.the-variants.{Accepted, Refused}
+use Rattle.solids.specs.Refusals.{in-order}
 use Rattle.solids.specs.Solids.{Solid, facets, facet}
 use Rattle.solids.specs.Admission.{admission, point-admission}
 
@@ -21,8 +23,8 @@ in-A a v = negℤ (sumOf (λ f. S Z (fv (facet a f) v)) (upTo (facets a)))
 
 -- "Every refusal returns its number with all counts zero"
 abbrev pub counted : Verdict → ℤ → Counted
-counted accepted n = record { answer = 0; count = n }
-counted (refused k) n = record { answer = k; count = pos 0 }
+counted Accepted n = record { answer = 0; count = n }
+counted (Refused k) n = record { answer = k; count = pos 0 }
 
 -- "A point count checks the point by 3 and 4, then the solid by 1 to 6; there is one such call for the solid as A and one for the solid as B."
 unfoldable pub count-as-A : Point → Solid → Counted

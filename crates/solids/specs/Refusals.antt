@@ -2,23 +2,21 @@
 use Prim.Native.Nat.{ℕ}
 use mathlib.Core.Bool.{Bool, true, false}
 use mathlib.Core.List.{List, [], _∷_}
-
-pub data Verdict : Type 0 where
-  accepted : Verdict
-  refused : ℕ → Verdict
+use Rattle.solids.specs.declared.Verdict.{Verdict}
+use Rattle.solids.specs.declared.Verdict.the-variants.{Accepted, Refused}
 
 -- "Answer 0 is success."
-abbrev pub answer : Verdict → ℕ
-answer accepted = 0
-answer (refused n) = n
+unfoldable pub answer : Verdict → ℕ
+answer Accepted = 0
+answer (Refused n) = n
 
 -- a check of the table: its number is "given exactly when" the test holds
 abbrev pub given : ℕ → Bool → Verdict
-given n true = refused n
-given n false = accepted
+given n true = Refused n
+given n false = Accepted
 
 -- checks "in this order": the first that refuses decides
 unfoldable pub in-order : List Verdict → Verdict
-in-order [] = accepted
-in-order (accepted ∷ vs) = in-order vs
-in-order (refused n ∷ vs) = refused n
+in-order [] = Accepted
+in-order (Accepted ∷ vs) = in-order vs
+in-order (Refused n ∷ vs) = Refused n

@@ -1,19 +1,13 @@
 -- For passed solids the table and the list of half-edges are as `put_triangles` asks, and its triangles are the result's.
 use mathlib.Core.Path.{_≡_, sym, ap, _∙_, subst}
 use Prim.Native.Nat.{ℕ, zero, suc, _+_, _*_, _-_, _<_, _≤_}
-use native.Mathlib.Nat.{mul-one}
 use native.Mathlib.Omega.{arith}
 use native.Mathlib.Decide.{decLt}
 use lib.IntN.{ℤ, pos, negsuc, negℤ, one, _+ℤ_, _*ℤ_, *ℤ-comm, *ℤ-one, zero-*ℤ}
 use lib.ListN.{length, getD, length-map, List·getD-eq-default}
 use Rattle.sums.specs.Lists.{upTo, sumOf}
 use Rattle.sums.proofs.Integers.{Bnd, bnd-add, bnd-neg, neg-mul}
-use Rattle.sums.proofs.Sums.{all-of, bnd-sum}
-use Rattle.sums.proofs.UpTo.{length-upTo}
-use Rattle.points.specs.declared.Axis.the-variants.{Z}
-use Rattle.points.specs.declared.Point.{Point}
-use Rattle.crossings.specs.Crossings.{S, vf, fv}
-use Rattle.crossings.proofs.Sizes.{S-size, small-vf, small-fv, two-ef, two-fe}
+use Rattle.crossings.proofs.Sizes.{two-ef, two-fe}
 use Rattle.solids.specs.Solids.{Solid, Half, vertices, facets, vertex, edge, facet, edges}
 use Rattle.solids.specs.Containment.{in-A, in-B}
 use Rattle.solids.proofs.Admitted.{Passed}
@@ -25,7 +19,8 @@ use Rattle.results.specs.Triangles.{triangles}
 use Rattle.building.specs.Table as T
 use Rattle.tables.specs.Filled.{sizes, inclusions, numbers, filled, halves}
 use Rattle.tables.proofs.Lists.{at-map}
-use Rattle.tables.proofs.Room.{edges-room}
+use Rattle.solids.proofs.Room.{edges-room}
+use Rattle.solids.proofs.Sizes.{size-in-A, size-in-B}
 use Rattle.tables.proofs.Keys.{no-key, length-keys, at-crossing}
 use Rattle.tables.proofs.Halves.{reads-A, reads-B, length-halves, known}
 use Rattle.tables.proofs.Same.{same-triangles}
@@ -46,19 +41,6 @@ pub small-numbers : (op : Operation) → Bnd 1 (cA op) × Bnd 1 (cB op) × Bnd 1
 small-numbers Union = (omega arith, omega arith, omega arith)
 small-numbers Intersection = (omega arith, omega arith, omega arith)
 small-numbers Difference = (omega arith, omega arith, omega arith)
-
-size-in-B : (v : Point) (b : Solid) → Bnd (facets b) (in-B v b)
-unfolding in-B
-size-in-B v b =
-    subst (λ n. Bnd n (in-B v b)) (mul-one (length (upTo (facets b))) ∙ length-upTo (facets b))
-    (bnd-sum 1 (λ f. S Z (vf v (facet b f))) (upTo (facets b)) (all-of (λ f. Bnd 1 (S Z (vf v (facet b f)))) (upTo (facets b)) (λ f m. S-size Z 1 (vf v (facet b f)) (small-vf v (facet b f)))))
-
-size-in-A : (a : Solid) (v : Point) → Bnd (facets a) (in-A a v)
-unfolding in-A
-size-in-A a v =
-    subst (λ n. Bnd n (in-A a v)) (mul-one (length (upTo (facets a))) ∙ length-upTo (facets a))
-    (bnd-neg (length (upTo (facets a)) * 1) (sumOf (λ f. S Z (fv (facet a f) v)) (upTo (facets a)))
-    (bnd-sum 1 (λ f. S Z (fv (facet a f) v)) (upTo (facets a)) (all-of (λ f. Bnd 1 (S Z (fv (facet a f) v))) (upTo (facets a)) (λ f m. S-size Z 1 (fv (facet a f) v) (small-fv (facet a f) v)))))
 
 -- ---- sizes of solids
 pub sized : (a b : Solid) → Passed a → Passed b → T.Sized (sizes a b)

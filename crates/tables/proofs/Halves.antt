@@ -19,7 +19,7 @@ use Rattle.building.specs.Table.{edge-at, against}
 use Rattle.tables.specs.Filled.{edge-number, half-first, half-numbers, half-list, halves}
 use Rattle.tables.proofs.Lists.{mem-getD, getD-behind, getD-upTo, place-at}
 use Rattle.tables.proofs.Keys.{no-half}
-use Rattle.tables.proofs.Room.{length-half-edges}
+use Rattle.solids.proofs.Room.{length-half-edges}
 
 -- the h-th half-edge of a solid, and the k-th of facet f
 abbrev pub half-at : Solid → ℕ → Half

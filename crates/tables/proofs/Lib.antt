@@ -1,5 +1,4 @@
 pub mod Lists
-pub mod Room
 pub mod Keys
 pub mod Numbers
 pub mod Halves

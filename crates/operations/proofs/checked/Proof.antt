@@ -1,8 +1,8 @@
 -- `checked` meets its contract: A, then B, then the rest.
-use mathlib.Core.Path.{ap, _∙_}
+use mathlib.Core.Path.{sym, ap, _∙_}
 use Rattle.solids.specs.Solids.{solid}
 use Rattle.results.specs.Operation.{lists, called}
-use Rattle.operations.proofs.Refused.{accepted-by, stopped-A, stopped-B}
+use Rattle.results.proofs.Refusals.{then-A, then-B}
 use borrow.Author.Needs.{needs}
 use Rattle.operations.proofs.checked.Statement.{statement}
 use Rattle.operations.proofs.checked.Tie as tie
@@ -10,23 +10,53 @@ use Rattle.operations.proofs.checked.Tie as tie
 admit-requires : tie.Need-admit-requires
 admit-requires c κs = search needs
 
+enum-known-of-a : tie.Need-enum-known-of-a
+enum-known-of-a c = search needs
+
 refused-requires : tie.Need-refused-requires
 refused-requires c κs = search needs
 
 returns : tie.Need-returns
-returns c = let s = c .before .before .before .before .before .before .before .before .before .before in let a = solid (s .args .ap .now) (s .args .ac .now) in let b = solid (s .args .bp .now) (s .args .bc .now) in let l = lists (s .args .points .now) (s .args .corners .now) (s .args .origins .now) in let r = c .before .before .admit in ap (λ m. called m l) (c .refused .ensures) ∙ stopped-A (s .args .op) a b l (r .result) (r .ensures) (c .before .if1 .taken)
+returns c =
+    let k = c .before .before .before .before in
+    let s = k .before .before .before .before .before .before .before .before in
+    let a = solid (s .args .ap .now) (s .args .ac .now) in
+    let b = solid (s .args .bp .now) (s .args .bc .now) in
+    let l = lists (s .args .points .now) (s .args .corners .now) (s .args .origins .now) in
+    ap (λ m. called m l) (c .refused .ensures) ∙ sym (then-A a b l (s .args .op) _ (sym (k .admit .ensures) ∙ c .before .before .of-a .given .1))
+
+enum-told : tie.Need-enum-told
+enum-told c = search needs
 
 admit-requires-2 : tie.Need-admit-requires-2
 admit-requires-2 c κs = search needs
+
+enum-known-of-b : tie.Need-enum-known-of-b
+enum-known-of-b c = search needs
 
 refused-requires-2 : tie.Need-refused-requires-2
 refused-requires-2 c κs = search needs
 
 returns-2 : tie.Need-returns-2
-returns-2 c = let s = c .before .before .before .before .before .before .before .before .before .before .before .before in let a = solid (s .args .ap .now) (s .args .ac .now) in let b = solid (s .args .bp .now) (s .args .bc .now) in let l = lists (s .args .points .now) (s .args .corners .now) (s .args .origins .now) in let q = c .before .before .before .before .admit in let r = c .before .before .admit2 in ap (λ m. called m l) (c .refused2 .ensures) ∙ stopped-B (s .args .op) a b l (r .result) (accepted-by a (q .result) (q .ensures) (c .before .before .before .if1 .left)) (r .ensures) (c .before .if2 .taken)
+returns-2 c =
+    let q = c .before .before .before .before in
+    let k = q .before .before .before in
+    let s = k .before .before .before .before .before .before .before .before in
+    let a = solid (s .args .ap .now) (s .args .ac .now) in
+    let b = solid (s .args .bp .now) (s .args .bc .now) in
+    let l = lists (s .args .points .now) (s .args .corners .now) (s .args .origins .now) in
+    ap (λ m. called m l) (c .refused2 .ensures)
+    ∙ sym (then-B a b l (s .args .op) _ (sym (k .admit .ensures) ∙ q .before .enum-told .given .1) (sym (q .admit2 .ensures) ∙ c .before .before .of-b .given .1))
+
+enum-told-2 : tie.Need-enum-told-2
+enum-told-2 c = search needs
 
 admitted-requires : tie.Need-admitted-requires
-admitted-requires c κs = let s = c .before .before .before .before .before .before .before .before .before .before .before .before .before .before in let a = solid (s .args .ap .now) (s .args .ac .now) in let b = solid (s .args .bp .now) (s .args .bc .now) in let q = c .before .before .before .before .before .before .admit in let r = c .before .before .before .before .admit2 in (accepted-by a (q .result) (q .ensures) (c .before .before .before .before .before .if1 .left), accepted-by b (r .result) (r .ensures) (c .before .before .before .if2 .left))
+admitted-requires c κs =
+    let t = c .before .before .before in
+    let q = t .before .before in
+    let k = q .before .before .before in
+    (sym (k .admit .ensures) ∙ q .before .enum-told .given .1, sym (q .admit2 .ensures) ∙ t .enum-told2 .given .1)
 
 same-length : tie.Need-same-length
 same-length c = search needs
@@ -45,11 +75,15 @@ checked-spec =
     tie.close
     (tie.spec
     admit-requires
+    enum-known-of-a
     refused-requires
     returns
+    enum-told
     admit-requires-2
+    enum-known-of-b
     refused-requires-2
     returns-2
+    enum-told-2
     admitted-requires
     same-length
     same-length-2

@@ -1,11 +1,10 @@
 -- `admit` meets its contract: check by check, each with the law on its place in the order.
-use mathlib.Core.Path.{_≡_, sym, ap, _∙_}
+use mathlib.Core.Path.{_≡_, sym, _∙_}
 use mathlib.Core.Bool.{false}
 use native.Mathlib.Omega.{arith}
 use borrow.Author.Needs.{needs}
 use borrow.Author.Tests.{lt-ltb, le-ltb, eq-eqb, ne-eqb}
 use Rattle.sums.specs.Lists.{any}
-use Rattle.solids.specs.Refusals.{answer}
 use Rattle.solids.specs.Solids.{Solid, solid, vertices, half-edges, pairs}
 use Rattle.solids.specs.Admission.{uneven, too-many, differ}
 use Rattle.solids.proofs.Admitted.{even-back, few-back}
@@ -26,19 +25,19 @@ no-2 c = few-back (of (c .before .before .before .before .before .before)) (c .b
 
 returns : tie.Need-returns
 unfolding uneven
-returns c = sym (ap answer (first-1 (of (c .before .before .before)) (rw (ne-eqb _ _ (c .if1 .taken)))))
+returns c = sym (first-1 (of (c .before .before .before)) (rw (ne-eqb _ _ (c .if1 .taken))))
 
 returns-2 : tie.Need-returns-2
 unfolding uneven
-returns-2 c = sym (ap answer (first-1 (of (c .before .before .before .before)) (rw (eq-eqb _ _ (c .before .if1 .left), ne-eqb _ _ (c .if2 .taken)))))
+returns-2 c = sym (first-1 (of (c .before .before .before .before)) (rw (eq-eqb _ _ (c .before .if1 .left), ne-eqb _ _ (c .if2 .taken))))
 
 returns-3 : tie.Need-returns-3
 unfolding too-many
-returns-3 c = sym (ap answer (then-2 (of (c .before .before .before .before .before)) (no-1 (c .before)) (rw (lt-ltb _ _ (c .if3 .taken)))))
+returns-3 c = sym (then-2 (of (c .before .before .before .before .before)) (no-1 (c .before)) (rw (lt-ltb _ _ (c .if3 .taken))))
 
 returns-4 : tie.Need-returns-4
 unfolding too-many
-returns-4 c = sym (ap answer (then-2 (of (c .before .before .before .before .before .before)) (no-1 (c .before .before)) (rw (le-ltb _ _ (c .before .if3 .left), lt-ltb _ _ (c .if4 .taken)))))
+returns-4 c = sym (then-2 (of (c .before .before .before .before .before .before)) (no-1 (c .before .before)) (rw (le-ltb _ _ (c .before .if3 .left), lt-ltb _ _ (c .if4 .taken))))
 
 some-bad-requires : tie.Need-some-bad-requires
 some-bad-requires c κs = search needs
@@ -46,7 +45,7 @@ some-bad-requires c κs = search needs
 returns-5 : tie.Need-returns-5
 returns-5 c =
     let d = c .before .before in
-    sym (ap answer (then-3 (of (d .before .before .before .before .before .before)) (no-1 (d .before .before)) (no-2 d) (sym (c .before .some-bad .ensures) ∙ c .if5 .taken)))
+    sym (then-3 (of (d .before .before .before .before .before .before)) (no-1 (d .before .before)) (no-2 d) (sym (c .before .some-bad .ensures) ∙ c .if5 .taken))
 
 some-bad-requires-2 : tie.Need-some-bad-requires-2
 some-bad-requires-2 c κs = search needs
@@ -55,8 +54,8 @@ returns-6 : tie.Need-returns-6
 returns-6 c =
     let e = c .before .before in
     let d = e .before .before in
-    sym (ap answer (then-4 (of (d .before .before .before .before .before .before)) (no-1 (d .before .before)) (no-2 d) (sym (e .before .some-bad .ensures) ∙ e .if5 .left)
-    (sym (c .before .some-bad2 .ensures) ∙ c .if6 .taken)))
+    sym (then-4 (of (d .before .before .before .before .before .before)) (no-1 (d .before .before)) (no-2 d) (sym (e .before .some-bad .ensures) ∙ e .if5 .left)
+    (sym (c .before .some-bad2 .ensures) ∙ c .if6 .taken))
 
 some-faulty-requires : tie.Need-some-faulty-requires
 some-faulty-requires c κs = search needs
@@ -66,8 +65,8 @@ returns-7 c =
     let g = c .before .before in
     let e = g .before .before in
     let d = e .before .before in
-    sym (ap answer (then-5 (of (d .before .before .before .before .before .before)) (no-1 (d .before .before)) (no-2 d) (sym (e .before .some-bad .ensures) ∙ e .if5 .left)
-    (sym (g .before .some-bad2 .ensures) ∙ g .if6 .left) (sym (c .before .some-faulty .ensures) ∙ c .if7 .taken)))
+    sym (then-5 (of (d .before .before .before .before .before .before)) (no-1 (d .before .before)) (no-2 d) (sym (e .before .some-bad .ensures) ∙ e .if5 .left)
+    (sym (g .before .some-bad2 .ensures) ∙ g .if6 .left) (sym (c .before .some-faulty .ensures) ∙ c .if7 .taken))
 
 unmatched-requires : tie.Need-unmatched-requires
 unmatched-requires c κs =
@@ -88,8 +87,8 @@ returns-8 c =
     let g = k .before .before in
     let e = g .before .before in
     let d = e .before .before in
-    sym (ap answer (then-6 (of (d .before .before .before .before .before .before)) (no-1 (d .before .before)) (no-2 d) (sym (e .before .some-bad .ensures) ∙ e .if5 .left)
-    (sym (g .before .some-bad2 .ensures) ∙ g .if6 .left) (sym (k .before .some-faulty .ensures) ∙ k .if7 .left) (sixth (c .before) ∙ c .if8 .taken)))
+    sym (then-6 (of (d .before .before .before .before .before .before)) (no-1 (d .before .before)) (no-2 d) (sym (e .before .some-bad .ensures) ∙ e .if5 .left)
+    (sym (g .before .some-bad2 .ensures) ∙ g .if6 .left) (sym (k .before .some-faulty .ensures) ∙ k .if7 .left) (sixth (c .before) ∙ c .if8 .taken))
 
 returns-9 : tie.Need-returns-9
 returns-9 c =
@@ -97,8 +96,8 @@ returns-9 c =
     let g = k .before .before in
     let e = g .before .before in
     let d = e .before .before in
-    sym (ap answer (else-accepted (of (d .before .before .before .before .before .before)) (no-1 (d .before .before)) (no-2 d) (sym (e .before .some-bad .ensures) ∙ e .if5 .left)
-    (sym (g .before .some-bad2 .ensures) ∙ g .if6 .left) (sym (k .before .some-faulty .ensures) ∙ k .if7 .left) (sixth (c .before) ∙ c .if8 .left)))
+    sym (else-accepted (of (d .before .before .before .before .before .before)) (no-1 (d .before .before)) (no-2 d) (sym (e .before .some-bad .ensures) ∙ e .if5 .left)
+    (sym (g .before .some-bad2 .ensures) ∙ g .if6 .left) (sym (k .before .some-faulty .ensures) ∙ k .if7 .left) (sixth (c .before) ∙ c .if8 .left))
 
 pub admit-spec : {M : Type 1} → statement M
 admit-spec =

@@ -14,29 +14,35 @@ scan-requires c κs = search needs
 refusal-requires : tie.Need-refusal-requires
 refusal-requires c κs = search needs
 
+enum-known-said : tie.Need-enum-known-said
+enum-known-said c = search needs
+
 refused-requires : tie.Need-refused-requires
 refused-requires c κs = search needs
 
 returns : tie.Need-returns
 unfolding read
 returns c =
-    let k = c .before .before in
+    let k = c .before .before .before .before in
     let n = k .before in
     let a = n .before .before .before .before .before .before .args in
-    rw (c .refused .ensures, k .refusal .ensures)
+    rw (c .refused .ensures)
     (refused-by-numbers (n .scan .result) (n .scan .last .1 .0) (n .scan .last .1 .1 .0) (a .points .now) (a .corners .now) (layout (a .bytes .now)) (n .scan .ensures .0)
-    (λ z. c .before .if1 .taken (k .refusal .ensures ∙ z)))
+    _ (sym (k .refusal .ensures) ∙ c .before .before .said .given .1))
 
 -- past 9, 2 and 8
-gone-past : (c : tie.Else1)
-    → let n = c .before .before in
+gone-past : (c : tie.After-enum-told)
+    → let n = c .before .before .before in
     let a = n .before .before .before .before .before .before .args in
     Past (n .scan .result) (n .scan .last .1 .0) (n .scan .last .1 .1 .0) (a .points .now) (a .corners .now) (layout (a .bytes .now))
 gone-past c =
-    let n = c .before .before in
+    let n = c .before .before .before in
     let a = n .before .before .before .before .before .before .args in
     past (n .scan .result) (n .scan .last .1 .0) (n .scan .last .1 .1 .0) (a .points .now) (a .corners .now) (layout (a .bytes .now)) (n .scan .ensures .0)
-    (sym (c .before .refusal .ensures) ∙ c .if1 .left)
+    (sym (c .before .before .refusal .ensures) ∙ c .enum-told .given .1)
+
+enum-told : tie.Need-enum-told
+enum-told c = search needs
 
 mul-n : tie.Need-mul-n
 mul-n c = omega (arith, gone-past (c .before) .few-vertices)
@@ -79,8 +85,10 @@ read-spec =
     (tie.spec
     scan-requires
     refusal-requires
+    enum-known-said
     refused-requires
     returns
+    enum-told
     mul-n
     mul-m
     array-share-prefix-kept-points
