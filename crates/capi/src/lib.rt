@@ -3,6 +3,7 @@ use housefile::Read;
 use housefile::Written;
 use points::Point;
 use results::Made;
+use solids::Answer;
 use solids::Counted;
 ghost use Rattle.solids.specs.Solids as So;
 ghost use Rattle.solids.specs.Admission as Ad;
@@ -34,9 +35,9 @@ pub extern "C" fn ozoravesh_operate(
 // The answer of a solid's admission.
 #[no_mangle]
 pub extern "C" fn ozoravesh_admit(points: &[f64], corners: &[u32]) -> u32
-    ensures { λ r. ⌜ Ad.AdmitAnswer (So.solid (now (points .entry)) (now (corners .entry))) r ⌝ }
+    ensures { λ r. ⌜ Ad.Admit (So.solid (now (points .entry)) (now (corners .entry))) r ⌝ }
 {
-    checks::admission::admit(points, corners).answer()
+    checks::admission::admit(points, corners).answer().number
 }
 
 // How often the solid, as A, contains the point x, y, z.
@@ -79,11 +80,11 @@ pub extern "C" fn ozoravesh_shown<'a>(
 {
     let found = origins::shown(ac, bc, origin);
     if part.len() < found.len() {
-        return Written { answer: 8, used: 0 };
+        return Written { answer: Answer { number: 8 }, used: 0 };
     }
     files::reader::copy_corners(found, part);
     Written {
-        answer: 0,
+        answer: Answer { number: 0 },
         used: found.len(),
     }
 }

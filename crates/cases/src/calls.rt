@@ -17,7 +17,7 @@ pub fn unknown(out: &mut Lines) {
 fn line_of_made(out: &mut Lines, made: Made) -> usize
     ensures { λ r. ⌜ r ≤ 65536 ⌝ }
 {
-    let answer = output::number(out, 0, made.answer as u64);
+    let answer = output::number(out, 0, made.answer.number as u64);
     let vertices = output::spaced(out, answer, made.vertices as u64);
     let triangles = output::spaced(out, vertices, made.triangles as u64);
     output::text(out, triangles, b"\n")
@@ -51,14 +51,14 @@ fn counted(as_b: bool, v: Point, points: &[f64], corners: &[u32]) -> Counted {
 
 pub fn count(out: &mut Lines, as_b: bool, v: Point, points: &[f64], corners: &[u32]) {
     let c = counted(as_b, v, points, corners);
-    let at = output::number(out, 0, c.answer as u64);
+    let at = output::number(out, 0, c.answer.number as u64);
     let end = output::signed(out, at, c.count);
     let line = output::text(out, end, b"\n");
     output::stop(out, line);
 }
 
 pub fn admit(out: &mut Lines, points: &[f64], corners: &[u32]) {
-    let answer = checks::admission::admit(points, corners).answer();
+    let answer = checks::admission::admit(points, corners).answer().number;
     let at = output::number(out, 0, answer as u64);
     let line = output::text(out, at, b"\n");
     output::stop(out, line);
@@ -74,7 +74,7 @@ pub fn shown<'a>(out: &mut Lines, ac: &'a [u32], bc: &'a [u32], origin: u32) {
 
 pub fn read(out: &mut Lines, bytes: &[u8], points: &mut [f64], corners: &mut [u32]) {
     let r = files::reader::read(bytes, points, corners);
-    let answer = output::number(out, 0, r.answer as u64);
+    let answer = output::number(out, 0, r.answer.number as u64);
     let vertices = output::spaced(out, answer, r.vertices as u64);
     let facets = output::spaced(out, vertices, r.facets as u64);
     let used = output::spaced(out, facets, r.used as u64);
@@ -96,10 +96,10 @@ fn line_of_file(out: &mut Lines, at: usize, file: &[u8]) -> usize
 
 pub fn write(out: &mut Lines, points: &[f64], corners: &[u32], bytes: &mut [u8]) {
     let w = files::writer::write(points, corners, bytes);
-    let answer = output::number(out, 0, w.answer as u64);
+    let answer = output::number(out, 0, w.answer.number as u64);
     let used = output::spaced(out, answer, w.used as u64);
     let line = output::text(out, used, b"\n");
-    if w.answer != 0 {
+    if w.answer.number != 0 {
         output::stop(out, line);
         return;
     }

@@ -1,7 +1,7 @@
 // The checks 1 to 6 on one solid, in document 01's order.
-use crate::table;
 use crate::vertices;
 use points::Point;
+use solids::Answer;
 use solids::Verdict;
 ghost use mathlib.Core.Path.{_≡_};
 ghost use mathlib.Core.List.{[]};
@@ -123,37 +123,37 @@ fn unmatched(corners: &[u32]) -> bool
     ensures { λ r. ⌜ r ≡ any (Ad.differ (So.half-edges (So.solid [] (now (corners .entry))))) (So.half-edges (So.solid [] (now (corners .entry)))) ⌝ }
 {
     let mut counts = [0u16; 16384];
-    table::tally(&mut counts, corners);
-    table::some_differ(&counts, corners)
+    tally::tally(&mut counts, corners);
+    tally::some_differ(&counts, corners)
 }
 
 // Admission: accepted, or refused by the first check that refuses.
 pub fn admit(points: &[f64], corners: &[u32]) -> Verdict
-    ensures { λ r. ⌜ Ad.Admit (So.solid (now (points .entry)) (now (corners .entry))) r ⌝ }
+    ensures { λ r. ⌜ Ad.Judged (So.solid (now (points .entry)) (now (corners .entry))) r ⌝ }
 {
     if points.len() % 3 != 0 {
-        return Verdict::Refused(1);
+        return Verdict::Refused(Answer { number: 1 });
     }
     if corners.len() % 3 != 0 {
-        return Verdict::Refused(1);
+        return Verdict::Refused(Answer { number: 1 });
     }
     if points.len() / 3 > 128 {
-        return Verdict::Refused(2);
+        return Verdict::Refused(Answer { number: 2 });
     }
     if corners.len() / 3 > 256 {
-        return Verdict::Refused(2);
+        return Verdict::Refused(Answer { number: 2 });
     }
     if some_bad(true, points) {
-        return Verdict::Refused(3);
+        return Verdict::Refused(Answer { number: 3 });
     }
     if some_bad(false, points) {
-        return Verdict::Refused(4);
+        return Verdict::Refused(Answer { number: 4 });
     }
     if some_faulty(points, corners) {
-        return Verdict::Refused(5);
+        return Verdict::Refused(Answer { number: 5 });
     }
     if unmatched(corners) {
-        return Verdict::Refused(6);
+        return Verdict::Refused(Answer { number: 6 });
     }
     Verdict::Accepted
 }
@@ -163,10 +163,10 @@ pub fn admit_point(v: Point) -> Verdict
     ensures { λ r. ⌜ Ad.AdmitPoint v r ⌝ }
 {
     if bad_point(true, v) {
-        return Verdict::Refused(3);
+        return Verdict::Refused(Answer { number: 3 });
     }
     if bad_point(false, v) {
-        return Verdict::Refused(4);
+        return Verdict::Refused(Answer { number: 4 });
     }
     Verdict::Accepted
 }

@@ -4,6 +4,7 @@ use checks::vertices;
 use crossings::Facet;
 use points::Axis;
 use points::Point;
+use solids::Answer;
 use solids::Counted;
 use solids::Verdict;
 ghost use mathlib.Core.Path.{_≡_};
@@ -48,9 +49,9 @@ pub fn facet_s(as_b: bool, v: Point, f: Facet) -> i32
     ensures small { λ r. ⌜ natAbs r ≤ 1 ⌝ }
 {
     if as_b {
-        crossings::vf(v, f).s(Axis::Z)
+        vertexwise::vf(v, f).s(Axis::Z)
     } else {
-        crossings::fv(f, v).s(Axis::Z)
+        vertexwise::fv(f, v).s(Axis::Z)
     }
 }
 
@@ -96,7 +97,7 @@ fn count_as(as_b: bool, v: Point, points: &[f64], corners: &[u32]) -> Counted
     match both(v, points, corners) {
         Verdict::Refused(answer) => Counted { answer, count: 0 },
         Verdict::Accepted => Counted {
-            answer: 0,
+            answer: Answer { number: 0 },
             count: contained(as_b, v, points, corners),
         },
     }

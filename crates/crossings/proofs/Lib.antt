@@ -7,5 +7,3 @@ pub mod Real
 pub mod Kept
 pub mod Sizes
 pub mod Fits
-pub mod Gathering
-pub mod Apart

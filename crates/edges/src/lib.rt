@@ -13,11 +13,11 @@ fn joins(table: &[u16; 16384], corners: &[u32], p: u32, q: u32) -> bool
     ensures { λ r. ⌜ r ≡ So.is-edge (So.half-edges (So.solid [] (now (corners .entry)))) (p, q) ⌝ }
 {
     if p < q {
-        let there = checks::table::place(p, q);
+        let there = tally::place(p, q);
         if 0 < table[there] {
             return true;
         }
-        let back = checks::table::place(q, p);
+        let back = tally::place(q, p);
         0 < table[back]
     } else {
         false
@@ -51,7 +51,7 @@ fn put_edge(
     if joins(table, corners, p, q) {
         store(ends, 2 * k, p);
         store(ends, 2 * k + 1, q);
-        let at = checks::table::place(p, q);
+        let at = tally::place(p, q);
         numbers[at] = k as u16;
         return k + 1;
     }

@@ -13,9 +13,10 @@ use lib.Ieee.{Float}
 use borrow.Author.Tests.{ltb-false}
 use Rattle.sums.specs.Lists.{onto}
 use Rattle.sums.proofs.Tests.{never, or-false}
+use Rattle.solids.specs.declared.Answer.{Answer}
 use Rattle.solids.specs.declared.Verdict.{Verdict}
 use Rattle.solids.specs.declared.Verdict.the-variants.{Accepted, Refused}
-use Rattle.solids.specs.Refusals.{answer, in-order}
+use Rattle.solids.specs.Refusals.{answer, in-order, answer-of}
 use Rattle.solids.specs.Solids.{Solid, solid, vertices, facets, vertex, corner}
 use Rattle.solids.specs.Admission.{uneven, too-many, check-sizes, admission}
 use Rattle.solids.proofs.Orders.{all-accepted, not-given}
@@ -31,7 +32,7 @@ use Rattle.housefile.proofs.Records.{length-encoded}
 use Rattle.housefile.proofs.Refusals.{later-checks, even, read-as-admission}
 
 -- a refusal of the first checks decides
-early : (vs ws : List Verdict) (n : ℕ) → in-order vs ≡ Refused n → in-order (vs ++ ws) ≡ Refused n
+early : (vs ws : List Verdict) (n : Answer) → in-order vs ≡ Refused n → in-order (vs ++ ws) ≡ Refused n
 unfolding in-order
 early [] ws n e = let z : _≡_ {A = ℕ} 0 1 = cc in absurd (omega arith)
 early (Accepted ∷ vs) ws n e = early vs ws n e
@@ -69,10 +70,10 @@ module _ (w : Walk) (kept-points : List Float) (kept-corners : List ℕ) (ps : L
     unfolding read-solid check-sizes in-order
     checks-found = rw (f .sound, too-many-found w kept-points kept-corners used xs ds f, too-short-found)
 
-  pub refused-by-numbers : (l : Layout) → Scanned l w kept-points kept-corners → (n : ℕ) → refusal w (length ps) (length cs) ≡ Refused n
+  pub refused-by-numbers : (l : Layout) → Scanned l w kept-points kept-corners → (n : Answer) → refusal w (length ps) (length cs) ≡ Refused n
       → unread n ps cs ≡ by-layout l ps cs
   unfolding refusal in-order answer
-  refused-by-numbers fault e n d = let m : Refused 9 ≡ Refused n = rw e at d in ap (λ v. unread (answer v) ps cs) (sym m)
+  refused-by-numbers fault e n d = let m : Refused (answer-of 9) ≡ Refused n = rw e at d in ap (λ v. unread (answer v) ps cs) (sym m)
   refused-by-numbers (laid used xs ds) f n d =
       sym (ap (λ v. reading v used (solid xs ds) ps cs) (checks-found used xs ds f ∙ early (by-numbers w (length ps) (length cs)) (later-checks (solid xs ds)) n d))
 

@@ -10,6 +10,7 @@ use lib.Dec.{ltb, eqb}
 use lib.Ieee.{Float}
 use Rattle.sums.specs.Lists.{upTo}
 use Rattle.points.specs.Points.{coordinates}
+use Rattle.solids.specs.declared.Answer.{Answer}
 use Rattle.solids.specs.declared.Verdict.{Verdict}
 use Rattle.solids.specs.Refusals.{given, in-order}
 use Rattle.solids.specs.Solids.{Solid, vertices, facets, vertex, corner}
@@ -77,8 +78,8 @@ by-numbers w room-points room-corners = given 9 (w .fault) ∷ given 2 (many w) 
 unfoldable pub refusal : Walk → ℕ → ℕ → Verdict
 refusal w room-points room-corners = in-order (by-numbers w room-points room-corners)
 
-abbrev pub unread : ℕ → Read
-unread n = record { answer = n; vertices = 0; facets = 0; used = 0 }
+abbrev pub unread : Answer → Read
+unread a = record { answer = a; vertices = 0; facets = 0; used = 0 }
 
 -- 3 to 6 on a solid that 9, 2 and 8 let through, by way of its admission
 abbrev pub handed-over : Solid → ℕ → List Float → List ℕ → Reading

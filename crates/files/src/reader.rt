@@ -5,6 +5,7 @@ use checks::admission;
 use housefile::Read;
 use housefile::Record;
 use points::Point;
+use solids::Answer;
 use solids::Verdict;
 ghost use mathlib.Core.Path.{_≡_};
 ghost use mathlib.Core.List.{[], _∷_};
@@ -114,19 +115,19 @@ fn refusal(w: Walk, room_points: usize, room_corners: usize) -> Verdict
     ensures { λ r. ⌜ r ≡ Wa.refusal w «room_points» «room_corners» ⌝ }
 {
     if w.fault {
-        return Verdict::Refused(9);
+        return Verdict::Refused(Answer { number: 9 });
     }
     if w.vertices > 128 {
-        return Verdict::Refused(2);
+        return Verdict::Refused(Answer { number: 2 });
     }
     if w.facets > 256 {
-        return Verdict::Refused(2);
+        return Verdict::Refused(Answer { number: 2 });
     }
     if room_points < 3 * w.vertices {
-        return Verdict::Refused(8);
+        return Verdict::Refused(Answer { number: 8 });
     }
     if room_corners < 3 * w.facets {
-        return Verdict::Refused(8);
+        return Verdict::Refused(Answer { number: 8 });
     }
     Verdict::Accepted
 }
@@ -153,7 +154,7 @@ pub fn copy_corners(from: &[u32], to: &mut [u32])
     }
 }
 
-fn refused(answer: u32) -> Read
+fn refused(answer: Answer) -> Read
     ensures { λ r. ⌜ r ≡ Wa.unread answer ⌝ }
 {
     Read {
@@ -182,7 +183,7 @@ fn hand_over(
     copy_points(from_points, points);
     copy_corners(from_corners, corners);
     Read {
-        answer: 0,
+        answer: Answer { number: 0 },
         vertices: from_points.len() / 3,
         facets: from_corners.len() / 3,
         used,

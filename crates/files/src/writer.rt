@@ -3,6 +3,7 @@ use crate::coding;
 use checks::admission;
 use checks::vertices;
 use housefile::Written;
+use solids::Answer;
 use solids::Verdict;
 ghost use mathlib.Core.Path.{_≡_};
 ghost use mathlib.Core.Bool.{false};
@@ -55,13 +56,13 @@ pub fn write(points: &[f64], corners: &[u32], bytes: &mut [u8]) -> Written
     let facets_at = 26 * (points.len() / 3);
     let end_at = facets_at + 14 * (corners.len() / 3);
     if bytes.len() < end_at + 2 {
-        return Written { answer: 8, used: 0 };
+        return Written { answer: Answer { number: 8 }, used: 0 };
     }
     put_vertices(points, bytes);
     put_facets(corners, bytes, facets_at);
     coding::put_end(bytes, end_at);
     Written {
-        answer: 0,
+        answer: Answer { number: 0 },
         used: end_at + 2,
     }
 }

@@ -30,11 +30,11 @@ fn put_half(p: u32, q: u32, numbers: &[u16; 16384], list: &mut [u32], at: usize)
     ensures { λ r. ⌜ now (list .exit) ≡ sets (now (list .entry)) at (Wo.three (now (numbers .entry)) (p, q)) ⌝ }
 {
     if p < q {
-        let k = checks::table::place(p, q);
+        let k = tally::place(p, q);
         let e = twice(numbers[k]);
         put_three(e, p, q, list, at);
     } else {
-        let k = checks::table::place(q, p);
+        let k = tally::place(q, p);
         let e = twice(numbers[k]);
         put_three(e + 1, q, p, list, at);
     }

@@ -13,9 +13,10 @@ use borrow.Author.Tests.{lt-ltb, le-ltb, ltb-false}
 use Rattle.sums.specs.Lists.{upTo, any, onto}
 use Rattle.sums.proofs.Sums.{All}
 use Rattle.sums.proofs.Tests.{or-false}
+use Rattle.solids.specs.declared.Answer.{Answer}
 use Rattle.solids.specs.declared.Verdict.{Verdict}
 use Rattle.solids.specs.declared.Verdict.the-variants.{Accepted, Refused}
-use Rattle.solids.specs.Refusals.{answer, given, in-order}
+use Rattle.solids.specs.Refusals.{answer, given, in-order, answer-of, no-refusal}
 use Rattle.solids.specs.Solids.{Solid, vertices, facets, half-edges, pairs}
 use Rattle.solids.specs.Admission.{uneven, too-many, beyond, faulty, differ}
 use Rattle.solids.specs.Admission.{check-lengths, check-sizes, check-blanks, check-limit, check-corners, check-closure, admission}
@@ -25,7 +26,7 @@ use Rattle.housefile.specs.Writer.{file, unwritten, writing, write}
 
 -- ---- the reader
 module _ (bs : List ℕ) (ps : List Float) (cs : List ℕ) where
-  pub read-first-9 : layout bs ≡ fault → read bs ps cs ≡ unread 9 ps cs
+  pub read-first-9 : layout bs ≡ fault → read bs ps cs ≡ unread (answer-of 9) ps cs
   unfolding read
   read-first-9 e = rw e
 
@@ -34,39 +35,39 @@ module _ (bs : List ℕ) (ps : List Float) (cs : List ℕ) where
     unfolding read
     read-checked = ap (λ l. by-layout l ps cs) follows
 
-    pub read-then-2 : too-many s ≡ true → read bs ps cs ≡ unread 2 ps cs
+    pub read-then-2 : too-many s ≡ true → read bs ps cs ≡ unread (answer-of 2) ps cs
     unfolding read-solid in-order check-sizes
     read-then-2 e = read-checked ∙ rw e
 
     module _ (no-2 : too-many s ≡ false) where
-      pub read-then-8 : too-short ps cs s ≡ true → read bs ps cs ≡ unread 8 ps cs
+      pub read-then-8 : too-short ps cs s ≡ true → read bs ps cs ≡ unread (answer-of 8) ps cs
       unfolding read-solid in-order check-sizes
       read-then-8 e = read-checked ∙ rw (no-2, e)
 
       module _ (no-8 : too-short ps cs s ≡ false) where
-        pub read-then-3 : any isNan (s .points) ≡ true → read bs ps cs ≡ unread 3 ps cs
+        pub read-then-3 : any isNan (s .points) ≡ true → read bs ps cs ≡ unread (answer-of 3) ps cs
         unfolding read-solid in-order check-sizes check-blanks
         read-then-3 e = read-checked ∙ rw (no-2, no-8, e)
 
         module _ (no-3 : any isNan (s .points) ≡ false) where
-          pub read-then-4 : any beyond (s .points) ≡ true → read bs ps cs ≡ unread 4 ps cs
+          pub read-then-4 : any beyond (s .points) ≡ true → read bs ps cs ≡ unread (answer-of 4) ps cs
           unfolding read-solid in-order check-sizes check-blanks check-limit
           read-then-4 e = read-checked ∙ rw (no-2, no-8, no-3, e)
 
           module _ (no-4 : any beyond (s .points) ≡ false) where
-            pub read-then-5 : any (faulty s) (upTo (facets s)) ≡ true → read bs ps cs ≡ unread 5 ps cs
+            pub read-then-5 : any (faulty s) (upTo (facets s)) ≡ true → read bs ps cs ≡ unread (answer-of 5) ps cs
             unfolding read-solid in-order check-sizes check-blanks check-limit check-corners
             read-then-5 e = read-checked ∙ rw (no-2, no-8, no-3, no-4, e)
 
             module _ (no-5 : any (faulty s) (upTo (facets s)) ≡ false) where
-              pub read-then-6 : any (differ (half-edges s)) (pairs (vertices s)) ≡ true → read bs ps cs ≡ unread 6 ps cs
+              pub read-then-6 : any (differ (half-edges s)) (pairs (vertices s)) ≡ true → read bs ps cs ≡ unread (answer-of 6) ps cs
               unfolding read-solid in-order check-sizes check-blanks check-limit check-corners check-closure
               read-then-6 e = read-checked ∙ rw (no-2, no-8, no-3, no-4, no-5, e)
 
               pub read-else : any (differ (half-edges s)) (pairs (vertices s)) ≡ false
                   → read bs ps cs
                   ≡ record {
-                    answer = 0;
+                    answer = no-refusal;
                     vertices = vertices s;
                     facets = facets s;
                     used = used;
@@ -78,21 +79,21 @@ module _ (bs : List ℕ) (ps : List Float) (cs : List ℕ) where
 
 -- ---- the writer
 module _ (s : Solid) (lent : List ℕ) where
-  pub write-first : (n : ℕ) → admission s ≡ Refused n → write s lent ≡ unwritten n lent
+  pub write-first : (n : Answer) → admission s ≡ Refused n → write s lent ≡ unwritten n lent
   unfolding write in-order
   write-first n e = rw e
 
   module _ (fine : admission s ≡ Accepted) where
-    pub write-then-8 : length lent < length (file s) → write s lent ≡ unwritten 8 lent
+    pub write-then-8 : length lent < length (file s) → write s lent ≡ unwritten (answer-of 8) lent
     unfolding write in-order
     write-then-8 h = rw (fine, lt-ltb (length lent) (length (file s)) h)
 
-    pub write-else : length (file s) ≤ length lent → write s lent ≡ record { answer = 0; used = length (file s); bytes = onto (file s) lent }
+    pub write-else : length (file s) ≤ length lent → write s lent ≡ record { answer = no-refusal; used = length (file s); bytes = onto (file s) lent }
     unfolding write in-order
     write-else h = rw (fine, le-ltb (length lent) (length (file s)) h)
 
 -- ---- a refusal gives zero counts and the lent lists as they were
-pub read-refusal : (bs : List ℕ) (ps : List Float) (cs : List ℕ) → (read bs ps cs) .answer ≢ 0
+pub read-refusal : (bs : List ℕ) (ps : List Float) (cs : List ℕ) → (read bs ps cs) .answer .number ≢ 0
     → read bs ps cs ≡ record { answer = (read bs ps cs) .answer; vertices = 0; facets = 0; used = 0; points = ps; corners = cs }
 unfolding read
 read-refusal bs ps cs = by-case (layout bs)
@@ -100,27 +101,27 @@ read-refusal bs ps cs = by-case (layout bs)
     Plain : Reading → Type 0
     Plain r = r ≡ record { answer = r .answer; vertices = 0; facets = 0; used = 0; points = ps; corners = cs }
 
-    checked : (v : Verdict) (used : ℕ) (s : Solid) → (reading v used s ps cs) .answer ≢ 0 → Plain (reading v used s ps cs)
+    checked : (v : Verdict) (used : ℕ) (s : Solid) → (reading v used s ps cs) .answer .number ≢ 0 → Plain (reading v used s ps cs)
     checked Accepted used s d = absurd (d refl)
     checked (Refused n) used s d = refl
 
-    by-case : (l : Layout) → (by-layout l ps cs) .answer ≢ 0 → Plain (by-layout l ps cs)
+    by-case : (l : Layout) → (by-layout l ps cs) .answer .number ≢ 0 → Plain (by-layout l ps cs)
     by-case fault d = refl
     by-case (laid used xs ds) d = let s : Solid = record { points = xs; corners = ds } in checked (read-solid s ps cs) used s d
 
-pub write-refusal : (s : Solid) (lent : List ℕ) → (write s lent) .answer ≢ 0
+pub write-refusal : (s : Solid) (lent : List ℕ) → (write s lent) .answer .number ≢ 0
     → write s lent ≡ record { answer = (write s lent) .answer; used = 0; bytes = lent }
 unfolding write
 write-refusal s lent = by-case (in-order (admission s ∷ given 8 (ltb (length lent) (length (file s))) ∷ []))
   where
-    by-case : (v : Verdict) → (writing v (file s) lent) .answer ≢ 0
+    by-case : (v : Verdict) → (writing v (file s) lent) .answer .number ≢ 0
         → writing v (file s) lent ≡ record { answer = (writing v (file s) lent) .answer; used = 0; bytes = lent }
     by-case Accepted d = absurd (d refl)
     by-case (Refused n) d = refl
 
 -- ---- answer 0 is success: no check refuses with the number 0
 abbrev pub Numbered : Verdict → Type 0
-Numbered v = answer v ≡ 0 → v ≡ Accepted
+Numbered v = answer v .number ≡ 0 → v ≡ Accepted
 
 pub in-order-numbered : (vs : List Verdict) → All Numbered vs → Numbered (in-order vs)
 unfolding in-order
@@ -159,23 +160,23 @@ module _ (s : Solid) where
       in-order-numbered (check-sizes s ∷ given 8 (too-short ps cs s) ∷ later-checks)
       (given-numbered 1 (too-many s), (given-numbered 7 (too-short ps cs s), later-numbered))
 
-pub read-success : (bs : List ℕ) (ps : List Float) (cs : List ℕ) → (read bs ps cs) .answer ≡ 0
+pub read-success : (bs : List ℕ) (ps : List Float) (cs : List ℕ) → (read bs ps cs) .answer .number ≡ 0
     → (used : ℕ) × (s : Solid) × (layout bs ≡ laid used (s .points) (s .corners)) × (read-solid s ps cs ≡ Accepted)
 unfolding read answer
 read-success bs ps cs = by-case (layout bs)
   where
-    checked : (v : Verdict) (used : ℕ) (s : Solid) → (reading v used s ps cs) .answer ≡ 0 → answer v ≡ 0
+    checked : (v : Verdict) (used : ℕ) (s : Solid) → (reading v used s ps cs) .answer .number ≡ 0 → answer v .number ≡ 0
     checked Accepted used s e = refl
     checked (Refused n) used s e = e
 
-    by-case : (l : Layout) → (by-layout l ps cs) .answer ≡ 0
+    by-case : (l : Layout) → (by-layout l ps cs) .answer .number ≡ 0
         → (used : ℕ) × (s : Solid) × (l ≡ laid used (s .points) (s .corners)) × (read-solid s ps cs ≡ Accepted)
     by-case fault e = absurd (omega arith)
     by-case (laid used xs ds) e =
         let s : Solid = record { points = xs; corners = ds } in
         (used, s, refl, read-solid-numbered s ps cs (checked (read-solid s ps cs) used s e))
 
-pub write-success : (s : Solid) (lent : List ℕ) → (write s lent) .answer ≡ 0 → (admission s ≡ Accepted) × (length (file s) ≤ length lent)
+pub write-success : (s : Solid) (lent : List ℕ) → (write s lent) .answer .number ≡ 0 → (admission s ≡ Accepted) × (length (file s) ≤ length lent)
 unfolding write answer
 write-success s lent e =
     let numbered = in-order-numbered checks (admission-numbered s, (given-numbered 7 (ltb (length lent) (length (file s))), tt)) in
@@ -185,7 +186,7 @@ write-success s lent e =
     checks : List Verdict
     checks = admission s ∷ given 8 (ltb (length lent) (length (file s))) ∷ []
 
-    checked : (v : Verdict) → (writing v (file s) lent) .answer ≡ 0 → answer v ≡ 0
+    checked : (v : Verdict) → (writing v (file s) lent) .answer .number ≡ 0 → answer v .number ≡ 0
     checked Accepted e = refl
     checked (Refused n) e = e
 

@@ -11,6 +11,7 @@ use lib.Ieee.{Float, isNan}
 use Rattle.sums.specs.Lists.{onto}
 use Rattle.sums.proofs.Sums.{All, all-of, all-flatMap, all-of-flatMap}
 use Rattle.points.specs.Points.{coordinates}
+use Rattle.solids.specs.Refusals.{no-refusal}
 use Rattle.solids.specs.declared.Verdict.the-variants.{Accepted}
 use Rattle.solids.specs.Solids.{Solid, vertices, facets}
 use Rattle.solids.specs.Admission.{admission}
@@ -40,7 +41,7 @@ module _ (s : Solid) (fine : admission s ≡ Accepted) (held : All F64 (s .point
         ∙ ap (λ v. reading v (length (file s)) s ps cs) (admitted-read s ps cs fine (long-enough s ps cs room-points room-corners))
 
 -- the bytes that a call of the writer left, lent bytes behind the file and all
-pub write-then-read : (s : Solid) (lent : List ℕ) → (write s lent) .answer ≡ 0 → All F64 (s .points)
+pub write-then-read : (s : Solid) (lent : List ℕ) → (write s lent) .answer .number ≡ 0 → All F64 (s .points)
     → (ps : List Float) (cs : List ℕ) → length (s .points) ≤ length ps → length (s .corners) ≤ length cs
     → read ((write s lent) .bytes) ps cs ≡ reading Accepted ((write s lent) .used) s ps cs
 write-then-read s lent z held ps cs hp hc =
@@ -60,7 +61,7 @@ solid-back used s ps cs p c = λ i. record {
 }
 
 -- so a solid that is written and read again is the same solid, bit for bit
-pub same-solid : (s : Solid) (lent : List ℕ) → (write s lent) .answer ≡ 0 → All F64 (s .points)
+pub same-solid : (s : Solid) (lent : List ℕ) → (write s lent) .answer .number ≡ 0 → All F64 (s .points)
     → (ps : List Float) (cs : List ℕ) → length (s .points) ≤ length ps → length (s .corners) ≤ length cs
     → solid-read (read ((write s lent) .bytes) ps cs) ≡ s
 same-solid s lent z held ps cs hp hc =
@@ -84,7 +85,7 @@ pub record AcceptedFile (bs : List ℕ) (ps : List Float) (cs : List ℕ) : Type
   pub bytes : file solid ≡ take used bs
 
 module _ (bs : List ℕ) (all : All Byte bs) where
-  pub accepted-file : (ps : List Float) (cs : List ℕ) → (read bs ps cs) .answer ≡ 0 → AcceptedFile bs ps cs
+  pub accepted-file : (ps : List Float) (cs : List ℕ) → (read bs ps cs) .answer .number ≡ 0 → AcceptedFile bs ps cs
   accepted-file ps cs z =
       let (used, s, l, v) = read-success bs ps cs z in
       let (vs, fs, f, p, c) = layout-follows bs used (s .points) (s .corners) l in
@@ -108,7 +109,7 @@ module _ (bs : List ℕ) (all : All Byte bs) where
         bytes = shown-file s vs fs h ∙ sym (follows-bytes all present f);
       }
 
-  module _ (ps : List Float) (cs : List ℕ) (z : (read bs ps cs) .answer ≡ 0) where
+  module _ (ps : List Float) (cs : List ℕ) (z : (read bs ps cs) .answer .number ≡ 0) where
     pub read-then-written : file (solid-read (read bs ps cs)) ≡ take ((read bs ps cs) .used) bs
     read-then-written =
         let a = accepted-file ps cs z in
@@ -117,14 +118,14 @@ module _ (bs : List ℕ) (all : All Byte bs) where
     -- the writer, lent as many bytes as were used or more, puts the same bytes there
     pub read-then-write : (lent : List ℕ) → (read bs ps cs) .used ≤ length lent
         → write (solid-read (read bs ps cs)) lent
-        ≡ record { answer = 0; used = (read bs ps cs) .used; bytes = onto (take ((read bs ps cs) .used) bs) lent }
+        ≡ record { answer = no-refusal; used = (read bs ps cs) .used; bytes = onto (take ((read bs ps cs) .used) bs) lent }
     read-then-write lent h =
         let a = accepted-file ps cs z in
         let u : (read bs ps cs) .used ≡ a .used = ap (λ (r : Reading). r .used) (a .reads) in
         let long : length (file (a .solid)) ≡ a .used = ap length (a .bytes) ∙ length-take-le (a .used) bs (a .within) in
         let same : file (a .solid) ≡ take ((read bs ps cs) .used) bs = a .bytes ∙ sym (ap (λ n. take n bs) u) in
         ap (λ s. write s lent) (a .left) ∙ write-else (a .solid) lent (a .admitted) (omega arith)
-        ∙ (λ i. record { answer = 0; used = (long ∙ sym u) i; bytes = onto (same i) lent })
+        ∙ (λ i. record { answer = no-refusal; used = (long ∙ sym u) i; bytes = onto (same i) lent })
 
 -- ---- bytes behind a file
 module _ (bs : List ℕ) (used : ℕ) (xs : List Float) (ds : List ℕ) (e : layout bs ≡ laid used xs ds) where

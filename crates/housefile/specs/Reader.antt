@@ -8,9 +8,10 @@ use lib.Dec.{ltb}
 use lib.Ieee.{Float}
 use Rattle.sums.specs.Lists.{onto}
 use Rattle.points.specs.Points.{coordinates}
+use Rattle.solids.specs.declared.Answer.{Answer}
 use Rattle.solids.specs.declared.Verdict.{Verdict}
 use Rattle.solids.specs.declared.Verdict.the-variants.{Accepted, Refused}
-use Rattle.solids.specs.Refusals.{given, in-order}
+use Rattle.solids.specs.Refusals.{answer-of, no-refusal, given, in-order}
 use Rattle.solids.specs.Solids.{Solid, vertices, facets}
 use Rattle.solids.specs.Admission.{check-sizes, check-blanks, check-limit, check-corners, check-closure}
 use Rattle.housefile.specs.declared.Read.{Read}
@@ -50,7 +51,7 @@ layout bs = records (length bs) false (decoded bs) bs
 -- ---- the reader
 
 pub record Reading : Type 0 where
-  pub answer : ℕ
+  pub answer : Answer
   pub vertices : ℕ
   pub facets : ℕ
   pub used : ℕ
@@ -61,13 +62,13 @@ pub record Reading : Type 0 where
 abbrev pub outcome : Read → List Float → List ℕ → Reading
 outcome r ps cs = record { answer = r .answer; vertices = r .vertices; facets = r .facets; used = r .used; points = ps; corners = cs }
 
-abbrev pub unread : ℕ → List Float → List ℕ → Reading
-unread n ps cs = record { answer = n; vertices = 0; facets = 0; used = 0; points = ps; corners = cs }
+abbrev pub unread : Answer → List Float → List ℕ → Reading
+unread a ps cs = record { answer = a; vertices = 0; facets = 0; used = 0; points = ps; corners = cs }
 
 abbrev pub reading : Verdict → ℕ → Solid → List Float → List ℕ → Reading
 reading Accepted used s ps cs =
-    record { answer = 0; vertices = vertices s; facets = facets s; used = used; points = onto (s .points) ps; corners = onto (s .corners) cs }
-reading (Refused n) used s ps cs = unread n ps cs
+    record { answer = no-refusal; vertices = vertices s; facets = facets s; used = used; points = onto (s .points) ps; corners = onto (s .corners) cs }
+reading (Refused a) used s ps cs = unread a ps cs
 
 -- 8: "a lent list is too short for the answer"
 unfoldable pub too-short : List Float → List ℕ → Solid → Bool
@@ -80,7 +81,7 @@ read-solid s ps cs =
     (check-sizes s ∷ given 8 (too-short ps cs s) ∷ check-blanks (s .points) ∷ check-limit (s .points) ∷ check-corners s ∷ check-closure s ∷ [])
 
 abbrev pub by-layout : Layout → List Float → List ℕ → Reading
-by-layout fault ps cs = unread 9 ps cs
+by-layout fault ps cs = unread (answer-of 9) ps cs
 by-layout (laid used xs ds) ps cs =
     let s : Solid = record { points = xs; corners = ds } in
     reading (read-solid s ps cs) used s ps cs

@@ -8,6 +8,7 @@ use lib.Dec.{T}
 use lib.Ieee.{Float, binary64, fits}
 use Rattle.sums.specs.Lists.{onto}
 use Rattle.solids.specs.declared.Verdict.the-variants.{Accepted}
+use Rattle.solids.specs.Refusals.{no-refusal}
 use Rattle.solids.specs.Solids.{Solid, vertices, facets}
 use Rattle.solids.specs.Admission.{admission}
 use Rattle.housefile.specs.Reader.{Reading, laid, layout, read}
@@ -31,7 +32,7 @@ pub record RoundTrip : Type 0 where
       → (rest : List ℕ) (ps : List Float) (cs : List ℕ) → length (s .points) ≤ length ps → length (s .corners) ≤ length cs
       → read (file s ++ rest) ps cs
       ≡ record {
-        answer = 0;
+        answer = no-refusal;
         vertices = vertices s;
         facets = facets s;
         used = length (file s);
@@ -39,17 +40,17 @@ pub record RoundTrip : Type 0 where
         corners = onto (s .corners) cs;
       }
   -- so, by the two calls, the solid that was written is read, bit for bit
-  pub write-then-read : (s : Solid) (lent : List ℕ) → (write s lent) .answer ≡ 0 → ((x : Float) → List·Memᴰ x (s .points) → F64 x)
+  pub write-then-read : (s : Solid) (lent : List ℕ) → (write s lent) .answer .number ≡ 0 → ((x : Float) → List·Memᴰ x (s .points) → F64 x)
       → (ps : List Float) (cs : List ℕ) → length (s .points) ≤ length ps → length (s .corners) ≤ length cs
       → solid-read (read ((write s lent) .bytes) ps cs) ≡ s
   -- an accepted file is written again with the same bytes
-  pub read-then-written : (bs : List ℕ) → ((b : ℕ) → List·Memᴰ b bs → Byte b) → (ps : List Float) (cs : List ℕ) → (read bs ps cs) .answer ≡ 0
+  pub read-then-written : (bs : List ℕ) → ((b : ℕ) → List·Memᴰ b bs → Byte b) → (ps : List Float) (cs : List ℕ) → (read bs ps cs) .answer .number ≡ 0
       → file (solid-read (read bs ps cs)) ≡ take ((read bs ps cs) .used) bs
   -- so, by the two calls, given room
-  pub read-then-write : (bs : List ℕ) → ((b : ℕ) → List·Memᴰ b bs → Byte b) → (ps : List Float) (cs : List ℕ) → (read bs ps cs) .answer ≡ 0
+  pub read-then-write : (bs : List ℕ) → ((b : ℕ) → List·Memᴰ b bs → Byte b) → (ps : List Float) (cs : List ℕ) → (read bs ps cs) .answer .number ≡ 0
       → (lent : List ℕ) → (read bs ps cs) .used ≤ length lent
       → write (solid-read (read bs ps cs)) lent
-      ≡ record { answer = 0; used = (read bs ps cs) .used; bytes = onto (take ((read bs ps cs) .used) bs) lent }
+      ≡ record { answer = no-refusal; used = (read bs ps cs) .used; bytes = onto (take ((read bs ps cs) .used) bs) lent }
   -- "bytes behind EN are not its business": no part of a reading, accepted or not, depends on them
   pub behind-changes-nothing : (bs : List ℕ) (used : ℕ) (xs : List Float) (ds : List ℕ) → layout bs ≡ laid used xs ds
       → (rest : List ℕ) (ps : List Float) (cs : List ℕ) → read (take used bs ++ rest) ps cs ≡ read bs ps cs

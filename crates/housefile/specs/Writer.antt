@@ -5,9 +5,10 @@ use mathlib.Core.List.{List, [], _∷_, _++_, flatMap}
 use lib.ListN.{length}
 use lib.Dec.{ltb}
 use Rattle.sums.specs.Lists.{upTo, onto}
+use Rattle.solids.specs.declared.Answer.{Answer}
 use Rattle.solids.specs.declared.Verdict.{Verdict}
 use Rattle.solids.specs.declared.Verdict.the-variants.{Accepted, Refused}
-use Rattle.solids.specs.Refusals.{given, in-order}
+use Rattle.solids.specs.Refusals.{no-refusal, given, in-order}
 use Rattle.solids.specs.Solids.{Solid, vertices, facets, vertex, corner}
 use Rattle.solids.specs.Admission.{admission}
 use Rattle.housefile.specs.declared.Written.{Written}
@@ -21,7 +22,7 @@ file s =
     ++ (flatMap (λ f. encoded (Fc (corner s f 0) (corner s f 1) (corner s f 2))) (upTo (facets s)) ++ encoded En)
 
 pub record Writing : Type 0 where
-  pub answer : ℕ
+  pub answer : Answer
   pub used : ℕ
   pub bytes : List ℕ
 
@@ -29,12 +30,12 @@ pub record Writing : Type 0 where
 abbrev pub outcome : Written → List ℕ → Writing
 outcome r bs = record { answer = r .answer; used = r .used; bytes = bs }
 
-abbrev pub unwritten : ℕ → List ℕ → Writing
-unwritten n old = record { answer = n; used = 0; bytes = old }
+abbrev pub unwritten : Answer → List ℕ → Writing
+unwritten a old = record { answer = a; used = 0; bytes = old }
 
 abbrev pub writing : Verdict → List ℕ → List ℕ → Writing
-writing Accepted new old = record { answer = 0; used = length new; bytes = onto new old }
-writing (Refused n) new old = unwritten n old
+writing Accepted new old = record { answer = no-refusal; used = length new; bytes = onto new old }
+writing (Refused a) new old = unwritten a old
 
 -- "The writer checks 1 to 6, then 8."
 unfoldable pub write : Solid → List ℕ → Writing

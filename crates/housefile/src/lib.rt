@@ -1,5 +1,6 @@
 // House files: a solid as bytes. Numbers stand low byte first.
 use points::Point;
+use solids::Answer;
 
 // The record that a part of a house file begins with: a vertex, a facet's three vertex numbers, the end, or none that the layout knows.
 pub enum Record {
@@ -9,18 +10,18 @@ pub enum Record {
     Fault,
 }
 
-// The answer of a reading, 0 or a refusal's number; how many vertices and facets were read, and how many bytes that took.
+// The answer of a reading; how many vertices and facets were read, and how many bytes that took.
 #[repr(C)]
 pub struct Read {
-    pub answer: u32,
+    pub answer: Answer,
     pub vertices: usize,
     pub facets: usize,
     pub used: usize,
 }
 
-// The answer of a writing, 0 or a refusal's number, and how many bytes were written.
+// The answer of a writing, and how many bytes were written.
 #[repr(C)]
 pub struct Written {
-    pub answer: u32,
+    pub answer: Answer,
     pub used: usize,
 }

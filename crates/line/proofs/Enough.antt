@@ -14,9 +14,10 @@ use Rattle.results.specs.declared.Chosen.the-variants.{Known, Unknown}
 use Rattle.results.specs.Operation.{refusal}
 use Rattle.line.specs.Line.{letter, room, by-letter, program, line, printed}
 use Rattle.line.specs.Enough.{bytes-read, Enough}
+use Rattle.solids.specs.Refusals.{answer-of}
 
 -- bs are the bytes behind the letter
-pub too-long : (op : Operation) (bs : List ℕ) → 32767 < length bs → by-letter (Known op) bs ≡ refusal 9 room
+pub too-long : (op : Operation) (bs : List ℕ) → 32767 < length bs → by-letter (Known op) bs ≡ refusal (answer-of 9) room
 too-long op bs h = let l : 32768 < suc (length bs) = omega arith in rw (by-letter, lt-ltb)
 
 by-front : (n : ℕ) → 32768 ≤ n → (l : Chosen) (bs : List ℕ) → by-letter l (take n bs) ≡ by-letter l bs

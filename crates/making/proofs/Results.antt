@@ -12,6 +12,7 @@ use lib.ListN.{length, length-map}
 use Rattle.sums.specs.Lists.{keep, nonzero, onto}
 use Rattle.sums.proofs.Tests.{or-false}
 use Rattle.sums.proofs.Threes.{length-threes}
+use Rattle.solids.specs.Refusals.{answer-of, no-refusal}
 use Rattle.solids.specs.Solids.{Solid}
 use Rattle.solids.specs.declared.Verdict.the-variants.{Accepted}
 use Rattle.solids.specs.Admission.{admission}
@@ -70,7 +71,7 @@ module _ (op : Operation) (a b : Solid) where
       unfolding too-short
       measured = let c = counted-triangles m of-m in rw (of-n, c .0, ap (ltb (length (l .origins))) (c .1))
 
-      pub done-short : short ≡ true → refusal 8 l ≡ operate op a b l
+      pub done-short : short ≡ true → refusal (answer-of 8) l ≡ operate op a b l
       done-short h = sym (last-8 a b l op ok-a ok-b (sym measured ∙ h))
 
       module _ (enough : short ≡ false) where
@@ -85,7 +86,7 @@ module _ (op : Operation) (a b : Solid) where
         kept-fits = omega (arith, kept-room, of-n, ltb-false (length (l .points)) (3 * n) (fits .0 .0))
 
         pub done-made : {ps : List Float} {cs os : List ℕ} {k : ℕ} → ps ≡ onto (points-kept a b z inc) (l .points) → Laid ts (l .corners) (l .origins) 0 cs os k
-            → called (record { answer = 0; vertices = n; triangles = m }) (lists ps cs os) ≡ operate op a b l
+            → called (record { answer = no-refusal; vertices = n; triangles = m }) (lists ps cs os) ≡ operate op a b l
         done-made {ps} {cs} {os} {k} p laid =
             let third : length (result op a b .points) / 3 ≡ n = omega (arith, of-n) in
             let q : ps ≡ onto (result op a b .points) (l .points) = p ∙ rw (of-z, of-inc, kept-points op a b) in

@@ -3,6 +3,7 @@ pub mod sides;
 
 use building::Sizes;
 use results::Made;
+use solids::Answer;
 use results::Operation;
 ghost use mathlib.Core.Path.{_≡_};
 ghost use mathlib.Core.Bool.{_||_};
@@ -74,7 +75,7 @@ fn too_short(points: usize, corners: usize, origins: usize, n: usize, m: usize) 
     origins < m
 }
 
-pub fn refused(answer: u32) -> Made
+pub fn refused(answer: Answer) -> Made
     ensures { λ r. ⌜ r ≡ record { answer = answer; vertices = 0; triangles = 0 } ⌝ }
 {
     Made {
@@ -139,7 +140,7 @@ pub fn make(
     let mut list = [0u32; 6150];
     let m = measure(inc, num, halves, z, &mut list);
     if too_short(points.len(), corners.len(), origins.len(), n, m) {
-        return refused(8);
+        return refused(Answer { number: 8 });
     }
     lay(
         z,
@@ -158,7 +159,7 @@ pub fn make(
         origins,
     );
     Made {
-        answer: 0,
+        answer: Answer { number: 0 },
         vertices: n,
         triangles: m,
     }

@@ -28,7 +28,7 @@ fn ready(
 {
     let mut counts = [0u16; 16384];
     let mut numbers = [0u16; 16384];
-    checks::table::tally(&mut counts, corners);
+    tally::tally(&mut counts, corners);
     let many = edges::list_edges(
         &counts,
         corners,

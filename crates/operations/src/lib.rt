@@ -3,6 +3,7 @@ use building::Sizes;
 use results::Chosen;
 use results::Made;
 use results::Operation;
+use solids::Answer;
 use solids::Verdict;
 ghost use mathlib.Core.Path.{_≡_};
 ghost use Prim.Native.Nat.{_+_, _*_, _≤_};
@@ -184,6 +185,6 @@ pub fn operate(
 {
     match Operation::of_code(code) {
         Chosen::Known(op) => checked(op, ap, ac, bp, bc, points, corners, origins),
-        Chosen::Unknown => making::refused(7),
+        Chosen::Unknown => making::refused(Answer { number: 7 }),
     }
 }

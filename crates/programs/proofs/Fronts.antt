@@ -8,9 +8,10 @@ use lib.ListN.{length, drop}
 use lib.Ieee.{Float}
 use borrow.Author.Tests.{ne-eqb, eq-eqb}
 use Rattle.sums.proofs.Tests.{never}
+use Rattle.solids.specs.declared.Answer.{Answer}
 use Rattle.solids.specs.declared.Verdict.{Verdict}
 use Rattle.solids.specs.declared.Verdict.the-variants.{Accepted, Refused}
-use Rattle.solids.specs.Refusals.{in-order}
+use Rattle.solids.specs.Refusals.{in-order, answer-of}
 use Rattle.solids.specs.Solids.{Solid, solid}
 use Rattle.solids.specs.Admission.{admission}
 use Rattle.solids.proofs.Orders.{then-2}
@@ -30,7 +31,7 @@ use Rattle.programs.specs.Words.{front, kept-admission, of-walks, of-byt
 
 -- ---- one walk
 module _ (w : Walk) (ps : List Float) (cs : List ℕ) where
-  kept-many : many w ≡ true → kept-admission w ps cs ≡ Refused 2
+  kept-many : many w ≡ true → kept-admission w ps cs ≡ Refused (answer-of 2)
   unfolding kept-admission
   kept-many e = rw e
 
@@ -60,11 +61,11 @@ module _ (w : Walk) (ps : List Float) (cs : List ℕ) where
 
 -- ---- two walks
 module _ (code : ℕ) (w : Walk) (ps : List Float) (cs : List ℕ) (v : Walk) (qs : List Float) (es : List ℕ) where
-  pub then-A-kept : (n : ℕ) → kept-admission w ps cs ≡ Refused n → of-walks code w ps cs v qs es ≡ refusal n room
+  pub then-A-kept : (n : Answer) → kept-admission w ps cs ≡ Refused n → of-walks code w ps cs v qs es ≡ refusal n room
   unfolding of-walks in-order
   then-A-kept n e = rw e
 
-  pub then-B-kept : (n : ℕ) → kept-admission w ps cs ≡ Accepted → kept-admission v qs es ≡ Refused n → of-walks code w ps cs v qs es ≡ refusal n room
+  pub then-B-kept : (n : Answer) → kept-admission w ps cs ≡ Accepted → kept-admission v qs es ≡ Refused n → of-walks code w ps cs v qs es ≡ refusal n room
   unfolding of-walks in-order
   then-B-kept n d e = rw (d, e)
 
@@ -117,17 +118,17 @@ pub laid-within : (bs : List ℕ) (i : ℕ) (xs : List Float) (ds : List ℕ) �
 laid-within bs i xs ds e = let (vs, fs, h, p, q) = layout-follows bs i xs ds e in follows-within h
 
 module _ (op : Operation) (bs : List ℕ) where
-  pub first-fault : layout bs ≡ fault → of-bytes op bs ≡ refusal 9 room
+  pub first-fault : layout bs ≡ fault → of-bytes op bs ≡ refusal (answer-of 9) room
   unfolding of-bytes
   first-fault e = rw e
 
   module _ (i : ℕ) (xs : List Float) (ds : List ℕ) (e : layout bs ≡ laid i xs ds) where
-    pub second-fault : layout (drop i bs) ≡ fault → of-bytes op bs ≡ refusal 9 room
+    pub second-fault : layout (drop i bs) ≡ fault → of-bytes op bs ≡ refusal (answer-of 9) room
     unfolding of-bytes
     second-fault k = rw (e, k)
 
     module _ (j : ℕ) (ys : List Float) (gs : List ℕ) (k : layout (drop i bs) ≡ laid j ys gs) where
-      pub trailing : (i + j ≡ length bs → ⊥) → of-bytes op bs ≡ refusal 9 room
+      pub trailing : (i + j ≡ length bs → ⊥) → of-bytes op bs ≡ refusal (answer-of 9) room
       unfolding of-bytes
       trailing d = rw (e, k, of-files, ne-eqb (i + j) (length bs) d)
 

@@ -12,6 +12,7 @@ use Rattle.results.specs.Inclusion.{chosen}
 use Rattle.results.specs.Operation.{refusal}
 use Rattle.line.specs.Line.{letter, room, by-letter, program}
 use Rattle.programs.specs.Words.{of-bytes}
+use Rattle.solids.specs.Refusals.{answer-of}
 
 -- ---- a code
 pub unknown : (code : ℕ) → 2 < code → chosen code ≡ Unknown
@@ -32,7 +33,7 @@ unfolding of-bytes
 not-long op bs h = rw (by-letter, le-ltb 32768 (suc (length bs)) (omega arith))
 
 -- ---- the first byte
-pub no-letter : (bs : List ℕ) → length bs ≡ 0 → program bs ≡ refusal 9 room
+pub no-letter : (bs : List ℕ) → length bs ≡ 0 → program bs ≡ refusal (answer-of 9) room
 unfolding program
 no-letter [] e = refl
 no-letter (b ∷ bs) e = absurd (omega arith)

@@ -1,14 +1,14 @@
 -- Words of contracts between functions of this crate; no public statement needs them. What the fronts of two walks' lists come to, and a text
 -- with more behind it.
 use mathlib.Core.Path.{_≡_}
-use mathlib.Core.Bool.{cond}
+use mathlib.Core.Bool.{true, cond}
 use mathlib.Core.List.{List, [], _∷_, _++_}
 use Prim.Native.Nat.{ℕ, _+_, _*_}
 use lib.ListN.{length, take}
 use lib.Ieee.{Float}
 use Rattle.solids.specs.declared.Verdict.{Verdict}
 use Rattle.solids.specs.declared.Verdict.the-variants.{Accepted, Refused}
-use Rattle.solids.specs.Refusals.{in-order}
+use Rattle.solids.specs.Refusals.{given, in-order}
 use Rattle.solids.specs.Solids.{Solid, solid}
 use Rattle.solids.specs.Admission.{admission}
 use Rattle.results.specs.declared.Operation.{Operation}
@@ -26,11 +26,11 @@ front w ps cs = solid (take (3 * w .vertices) ps) (take (3 * w .facets) cs)
 
 -- its admission; of too many vertices or facets not all are kept
 unfoldable pub kept-admission : Walk → List Float → List ℕ → Verdict
-kept-admission w ps cs = cond (many w) (Refused 2) (admission (front w ps cs))
+kept-admission w ps cs = cond (many w) (given 2 true) (admission (front w ps cs))
 
 abbrev pub past : Verdict → Outcome → Outcome
 past Accepted o = o
-past (Refused n) o = refusal n room
+past (Refused a) o = refusal a room
 
 -- "then come A's other refusals, B's", and past them the operation
 unfoldable pub of-walks : ℕ → Walk → List Float → List ℕ → Walk → List Float → List ℕ → Outcome

@@ -4,6 +4,7 @@ use checks::admission;
 use files::Walk;
 use files::reader;
 use results::Made;
+use solids::Answer;
 use solids::Verdict;
 ghost use mathlib.Core.Path.{_≡_};
 ghost use lib.ListN.{length};
@@ -16,7 +17,7 @@ ghost use Rattle.line.specs.Line as Li;
 ghost use Rattle.programs.specs.Answers as An;
 ghost use Rattle.programs.specs.Words as Wo;
 
-pub fn refused(answer: u32) -> Made
+pub fn refused(answer: Answer) -> Made
     ensures { λ r. ⌜ r ≡ An.made (Op.refusal answer Li.room) ⌝ }
 {
     Made {
@@ -52,10 +53,10 @@ fn admitted(w: Walk, points: &[f64], corners: &[u32]) -> Verdict
     ensures { λ r. ⌜ r ≡ Wo.kept-admission w (now (points .entry)) (now (corners .entry)) ⌝ }
 {
     if w.vertices > 128 {
-        return Verdict::Refused(2);
+        return Verdict::Refused(Answer { number: 2 });
     }
     if w.facets > 256 {
-        return Verdict::Refused(2);
+        return Verdict::Refused(Answer { number: 2 });
     }
     let n = 3 * w.vertices;
     let m = 3 * w.facets;
@@ -98,17 +99,17 @@ fn of_bytes(code: u32, bytes: &[u8]) -> Made
     let mut ac = [0u32; 768];
     let first = reader::scan(bytes, &mut ap, &mut ac);
     if first.fault {
-        return refused(9);
+        return refused(Answer { number: 9 });
     }
     let used = first.used;
     let mut bp = [0.0f64; 384];
     let mut bc = [0u32; 768];
     let second = reader::scan(&bytes[used..], &mut bp, &mut bc);
     if second.fault {
-        return refused(9);
+        return refused(Answer { number: 9 });
     }
     if used + second.used < bytes.len() {
-        return refused(9);
+        return refused(Answer { number: 9 });
     }
     of_walks(code, first, &ap, &ac, second, &bp, &bc)
 }
@@ -118,9 +119,9 @@ pub fn by_code(code: u32, bytes: &[u8]) -> Made
     ensures { λ r. ⌜ r ≡ An.made (Li.by-letter (In.chosen code) (now (bytes .entry))) ⌝ }
 {
     if code > 2 {
-        refused(7)
+        refused(Answer { number: 7 })
     } else if bytes.len() > 32767 {
-        refused(9)
+        refused(Answer { number: 9 })
     } else {
         of_bytes(code, bytes)
     }

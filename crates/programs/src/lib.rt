@@ -3,6 +3,7 @@ mod inputs;
 mod numbers;
 
 use results::Made;
+use solids::Answer;
 ghost use Rattle.programs.specs.Answers as An;
 
 // A text is the first `used` of its bytes, which have room for a line of three numbers of any size; behind it are zeros.
@@ -16,7 +17,7 @@ pub fn outcome(input: &[u8]) -> Made
     ensures { λ r. ⌜ An.Program (now (input .entry)) r ⌝ }
 {
     if input.len() == 0 {
-        return inputs::refused(9);
+        return inputs::refused(Answer { number: 9 });
     }
     inputs::by_code(inputs::code_of(input[0]), &input[1..])
 }

@@ -47,7 +47,7 @@ pub fn line_of(made: Made) -> Text
         bytes: [0; 64],
         used: 0,
     };
-    let answer = put_number(empty, made.answer as usize);
+    let answer = put_number(empty, made.answer.number as usize);
     let first = put_byte(answer, b' ');
     let vertices = put_number(first, made.vertices);
     let second = put_byte(vertices, b' ');

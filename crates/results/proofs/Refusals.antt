@@ -2,8 +2,9 @@
 use mathlib.Core.Path.{_≡_, refl}
 use Prim.Native.Nat.{ℕ, suc}
 use mathlib.Core.Bool.{true, false}
+use Rattle.solids.specs.declared.Answer.{Answer}
 use Rattle.solids.specs.declared.Verdict.the-variants.{Accepted, Refused}
-use Rattle.solids.specs.Refusals.{in-order}
+use Rattle.solids.specs.Refusals.{in-order, answer-of}
 use Rattle.solids.specs.Solids.{Solid}
 use Rattle.solids.specs.Admission.{admission}
 use Rattle.results.specs.declared.Operation.{Operation}
@@ -13,7 +14,7 @@ use Rattle.results.specs.Triangles.{result}
 use Rattle.results.specs.Operation.{Lent, too-short, refusal, success, operate, operation}
 
 module _ (a b : Solid) (l : Lent) where
-  pub first-7 : (n : ℕ) → operation (suc (suc (suc n))) a b l ≡ refusal 7 l
+  pub first-7 : (n : ℕ) → operation (suc (suc (suc n))) a b l ≡ refusal (answer-of 7) l
   unfolding operation
   first-7 n = refl
 
@@ -22,15 +23,15 @@ module _ (a b : Solid) (l : Lent) where
     unfolding operation
     by-code code known = rw known
 
-    pub then-A : (n : ℕ) → admission a ≡ Refused n → operate op a b l ≡ refusal n l
+    pub then-A : (n : Answer) → admission a ≡ Refused n → operate op a b l ≡ refusal n l
     unfolding operate in-order
     then-A n e = rw e
 
-    pub then-B : (n : ℕ) → admission a ≡ Accepted → admission b ≡ Refused n → operate op a b l ≡ refusal n l
+    pub then-B : (n : Answer) → admission a ≡ Accepted → admission b ≡ Refused n → operate op a b l ≡ refusal n l
     unfolding operate in-order
     then-B n d e = rw (d, e)
 
-    pub last-8 : admission a ≡ Accepted → admission b ≡ Accepted → too-short l (result op a b) ≡ true → operate op a b l ≡ refusal 8 l
+    pub last-8 : admission a ≡ Accepted → admission b ≡ Accepted → too-short l (result op a b) ≡ true → operate op a b l ≡ refusal (answer-of 8) l
     unfolding operate in-order
     last-8 d e h = rw (d, e, h)
 

@@ -7,9 +7,10 @@ use lib.ListN.{length}
 use lib.Dec.{ltb}
 use lib.Ieee.{Float}
 use Rattle.sums.specs.Lists.{onto}
+use Rattle.solids.specs.declared.Answer.{Answer}
 use Rattle.solids.specs.declared.Verdict.{Verdict}
 use Rattle.solids.specs.declared.Verdict.the-variants.{Accepted, Refused}
-use Rattle.solids.specs.Refusals.{given, in-order}
+use Rattle.solids.specs.Refusals.{answer-of, no-refusal, given, in-order}
 use Rattle.solids.specs.Solids.{Solid}
 use Rattle.solids.specs.Admission.{admission}
 use Rattle.results.specs.declared.Made.{Made}
@@ -35,7 +36,7 @@ too-short l r =
     || ltb (length (l .origins)) (length (r .origins))
 
 pub record Outcome : Type 0 where
-  pub answer : ℕ
+  pub answer : Answer
   pub vertices : ℕ
   pub triangles : ℕ
   pub lent : Lent
@@ -45,14 +46,14 @@ abbrev pub called : Made → Lent → Outcome
 called m l = record { answer = m .answer; vertices = m .vertices; triangles = m .triangles; lent = l }
 
 -- "Every refusal returns its number with all counts zero and changes no lent list."
-abbrev pub refusal : ℕ → Lent → Outcome
-refusal n l = record { answer = n; vertices = 0; triangles = 0; lent = l }
+abbrev pub refusal : Answer → Lent → Outcome
+refusal a l = record { answer = a; vertices = 0; triangles = 0; lent = l }
 
 -- "On success the fronts of the lent lists hold the answer, and everything behind is as before."
 abbrev pub success : Result → Lent → Outcome
 success r l =
     record {
-      answer = 0;
+      answer = no-refusal;
       vertices = length (r .points) / 3;
       triangles = length (r .origins);
       lent = record { points = onto (r .points) (l .points); corners = onto (r .corners) (l .corners); origins = onto (r .origins) (l .origins) };
@@ -69,7 +70,7 @@ operate op a b l = let r = result op a b in outcome (in-order (admission a ∷ a
 -- "An operation checks 7": an unknown operation code
 abbrev pub by-choice : Chosen → Solid → Solid → Lent → Outcome
 by-choice (Known op) a b l = operate op a b l
-by-choice Unknown a b l = refusal 7 l
+by-choice Unknown a b l = refusal (answer-of 7) l
 
 unfoldable pub operation : ℕ → Solid → Solid → Lent → Outcome
 operation code a b l = by-choice (chosen code) a b l

@@ -1,4 +1,5 @@
 // The operation's type with its three fixed numbers, the record that a composite edge is joined from, and what an operation answers.
+use solids::Answer;
 ghost use mathlib.Core.Path.{_≡_};
 ghost use Rattle.results.specs.Inclusion as I;
 
@@ -20,10 +21,10 @@ pub struct End {
     pub count: i32,
 }
 
-// The answer of an operation, 0 or a refusal's number; how many vertices and triangles its result has.
+// The answer of an operation; how many vertices and triangles its result has.
 #[repr(C)]
 pub struct Made {
-    pub answer: u32,
+    pub answer: Answer,
     pub vertices: usize,
     pub triangles: usize,
 }

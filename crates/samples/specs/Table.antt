@@ -12,6 +12,7 @@ use Rattle.crossings.specs.declared.Edge.{Edge}
 use Rattle.crossings.specs.declared.Crossing.{Crossing}
 use Rattle.crossings.specs.declared.Crossing.the-variants.{Miss, Cross}
 use Rattle.crossings.specs.Crossings.{S, vv, ee, ef}
+use Rattle.solids.specs.Refusals.{no-refusal}
 use Rattle.solids.specs.Solids.{Solid, nothing, facet}
 use Rattle.solids.specs.Containment.{in-A, in-B}
 use Rattle.results.specs.Operation.{Lent, Outcome, operation}
@@ -56,7 +57,7 @@ abbrev room : Lent
 room = lists (replicate 12 (halves 0)) (replicate 12 0) (replicate 4 0)
 
 abbrev done : ℕ → ℕ → Lent → Outcome
-done v t l = record { answer = 0; vertices = v; triangles = t; lent = l }
+done v t l = record { answer = no-refusal; vertices = v; triangles = t; lent = l }
 
 -- ---- what a row compares
 

@@ -22,9 +22,9 @@ fn edge_s(as_b: bool, v: Point, e: Edge) -> i32
     ensures small { λ r. ⌜ natAbs r ≤ 1 ⌝ }
 {
     if as_b {
-        crossings::ve(v, e).s(Axis::Y)
+        vertexwise::ve(v, e).s(Axis::Y)
     } else {
-        crossings::ev(e, v).s(Axis::Y)
+        vertexwise::ev(e, v).s(Axis::Y)
     }
 }
 
@@ -93,7 +93,7 @@ fn edge_edge(
         return 0;
     }
     let a = slots::edge_at(ap, ae, ac, e);
-    crossings::ee(a, slots::edge_at(bp, be, bc, g)).s(Axis::Z)
+    edgewise::ee(a, slots::edge_at(bp, be, bc, g)).s(Axis::Z)
 }
 
 fn s_at(

@@ -73,7 +73,7 @@ pub fn edge_facet(
 {
     let edge = edge_at(ap, ends, ac, e);
     let facet = containment::facet(bp, bc, f);
-    crossings::ef(edge, facet)
+    edgewise::ef(edge, facet)
 }
 
 // "Crossings by facet of A, then edge of B."
@@ -92,5 +92,5 @@ pub fn facet_edge(
 {
     let facet = containment::facet(ap, ac, f);
     let edge = edge_at(bp, ends, bc, e);
-    crossings::fe(facet, edge)
+    edgewise::fe(facet, edge)
 }

@@ -11,9 +11,10 @@ use Rattle.sums.specs.Lists.{upTo, any}
 use Rattle.sums.proofs.Sums.{All}
 use Rattle.points.specs.declared.Point.{Point}
 use Rattle.points.specs.Points.{coordinates}
+use Rattle.solids.specs.declared.Answer.{Answer}
 use Rattle.solids.specs.declared.Verdict.{Verdict}
 use Rattle.solids.specs.declared.Verdict.the-variants.{Accepted, Refused}
-use Rattle.solids.specs.Refusals.{given, in-order}
+use Rattle.solids.specs.Refusals.{given, in-order, answer-of, no-refusal}
 use Rattle.solids.specs.Solids.{Solid, vertices, facets, half-edges, pairs}
 use Rattle.solids.specs.Admission.{uneven, too-many, beyond, faulty, differ}
 use Rattle.solids.specs.Admission.{check-lengths, check-sizes, check-blanks, check-limit, check-corners, check-closure, admission, point-admission}
@@ -22,7 +23,7 @@ use Rattle.solids.specs.Containment.{in-A, in-B, counted, count-as-A, co
 use Rattle.solids.specs.Table.{contained, count-as}
 
 -- ---- any checks in order
-pub first-refusal : (vs ws : List Verdict) (n : ℕ) → All (λ v. v ≡ Accepted) vs → in-order (vs ++ (Refused n ∷ ws)) ≡ Refused n
+pub first-refusal : (vs ws : List Verdict) (n : Answer) → All (λ v. v ≡ Accepted) vs → in-order (vs ++ (Refused n ∷ ws)) ≡ Refused n
 unfolding in-order
 first-refusal [] ws n a = refl
 first-refusal (v ∷ vs) ws n a = rw (a .0) (first-refusal vs ws n (a .1))
@@ -44,32 +45,32 @@ not-given n false e = refl
 
 -- ---- the checks on one solid
 module _ (s : Solid) where
-  pub first-1 : uneven s ≡ true → admission s ≡ Refused 1
+  pub first-1 : uneven s ≡ true → admission s ≡ Refused (answer-of 1)
   unfolding admission in-order check-lengths
   first-1 e = rw e
 
   module _ (no-1 : uneven s ≡ false) where
-    pub then-2 : too-many s ≡ true → admission s ≡ Refused 2
+    pub then-2 : too-many s ≡ true → admission s ≡ Refused (answer-of 2)
     unfolding admission in-order check-lengths check-sizes
     then-2 e = rw (no-1, e)
 
     module _ (no-2 : too-many s ≡ false) where
-      pub then-3 : any isNan (s .points) ≡ true → admission s ≡ Refused 3
+      pub then-3 : any isNan (s .points) ≡ true → admission s ≡ Refused (answer-of 3)
       unfolding admission in-order check-lengths check-sizes check-blanks
       then-3 e = rw (no-1, no-2, e)
 
       module _ (no-3 : any isNan (s .points) ≡ false) where
-        pub then-4 : any beyond (s .points) ≡ true → admission s ≡ Refused 4
+        pub then-4 : any beyond (s .points) ≡ true → admission s ≡ Refused (answer-of 4)
         unfolding admission in-order check-lengths check-sizes check-blanks check-limit
         then-4 e = rw (no-1, no-2, no-3, e)
 
         module _ (no-4 : any beyond (s .points) ≡ false) where
-          pub then-5 : any (faulty s) (upTo (facets s)) ≡ true → admission s ≡ Refused 5
+          pub then-5 : any (faulty s) (upTo (facets s)) ≡ true → admission s ≡ Refused (answer-of 5)
           unfolding admission in-order check-lengths check-sizes check-blanks check-limit check-corners
           then-5 e = rw (no-1, no-2, no-3, no-4, e)
 
           module _ (no-5 : any (faulty s) (upTo (facets s)) ≡ false) where
-            pub then-6 : any (differ (half-edges s)) (pairs (vertices s)) ≡ true → admission s ≡ Refused 6
+            pub then-6 : any (differ (half-edges s)) (pairs (vertices s)) ≡ true → admission s ≡ Refused (answer-of 6)
             unfolding admission in-order check-lengths check-sizes check-blanks check-limit check-corners check-closure
             then-6 e = rw (no-1, no-2, no-3, no-4, no-5, e)
 
@@ -79,12 +80,12 @@ module _ (s : Solid) where
 
 -- ---- the checks on a point: 3, then 4
 module _ (v : Point) where
-  pub point-first-3 : any isNan (coordinates v) ≡ true → point-admission v ≡ Refused 3
+  pub point-first-3 : any isNan (coordinates v) ≡ true → point-admission v ≡ Refused (answer-of 3)
   unfolding point-admission in-order check-blanks
   point-first-3 e = rw e
 
   module _ (no-3 : any isNan (coordinates v) ≡ false) where
-    pub point-then-4 : any beyond (coordinates v) ≡ true → point-admission v ≡ Refused 4
+    pub point-then-4 : any beyond (coordinates v) ≡ true → point-admission v ≡ Refused (answer-of 4)
     unfolding point-admission in-order check-blanks check-limit
     point-then-4 e = rw (no-3, e)
 
@@ -93,21 +94,21 @@ module _ (v : Point) where
     point-else-accepted e = rw (no-3, e)
 
 -- ---- "A point count checks the point by 3 and 4, then the solid by 1 to 6"
-abbrev pub no-count : ℕ → Counted
-no-count n = record { answer = n; count = pos 0 }
+abbrev pub no-count : Answer → Counted
+no-count a = record { answer = a; count = pos 0 }
 
 module _ (v : Point) (s : Solid) where
-  pub count-point-first : (n : ℕ) → point-admission v ≡ Refused n → (count-as-A v s ≡ no-count n) × (count-as-B v s ≡ no-count n)
+  pub count-point-first : (n : Answer) → point-admission v ≡ Refused n → (count-as-A v s ≡ no-count n) × (count-as-B v s ≡ no-count n)
   unfolding count-as-A count-as-B in-order
   count-point-first n e = (rw e, rw e)
 
   module _ (fine : point-admission v ≡ Accepted) where
-    pub count-then-solid : (n : ℕ) → admission s ≡ Refused n → (count-as-A v s ≡ no-count n) × (count-as-B v s ≡ no-count n)
+    pub count-then-solid : (n : Answer) → admission s ≡ Refused n → (count-as-A v s ≡ no-count n) × (count-as-B v s ≡ no-count n)
     unfolding count-as-A count-as-B in-order
     count-then-solid n e = (rw (fine, e), rw (fine, e))
 
     pub count-else : admission s ≡ Accepted
-        → (count-as-A v s ≡ record { answer = 0; count = in-A s v }) × (count-as-B v s ≡ record { answer = 0; count = in-B v s })
+        → (count-as-A v s ≡ record { answer = no-refusal; count = in-A s v }) × (count-as-B v s ≡ record { answer = no-refusal; count = in-B v s })
     unfolding count-as-A count-as-B in-order
     count-else e = (rw (fine, e), rw (fine, e))
 

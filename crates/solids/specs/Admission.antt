@@ -71,12 +71,12 @@ unfoldable pub admission : Solid → Verdict
 admission s =
     in-order (check-lengths s ∷ check-sizes s ∷ check-blanks (s .points) ∷ check-limit (s .points) ∷ check-corners s ∷ check-closure s ∷ [])
 
--- what the call promises of its verdict r, and of the number that it has for C
-abbrev pub Admit : Solid → Verdict → Type 0
-Admit s r = r ≡ admission s
+-- what the call promises of its verdict v, and for C of its number r
+abbrev pub Judged : Solid → Verdict → Type 0
+Judged s v = v ≡ admission s
 
-abbrev pub AdmitAnswer : Solid → ℕ → Type 0
-AdmitAnswer s r = r ≡ answer (admission s)
+abbrev pub Admit : Solid → ℕ → Type 0
+Admit s r = r ≡ answer (admission s) .number
 
 -- "A point count checks the point by 3 and 4"
 unfoldable pub point-admission : Point → Verdict

@@ -7,6 +7,7 @@ use lib.Ieee.{isNan}
 use borrow.Author.Needs.{needs}
 use Rattle.sums.specs.Lists.{onto}
 use Rattle.sums.proofs.Tests.{false-any}
+use Rattle.solids.specs.Refusals.{no-refusal}
 use Rattle.solids.specs.declared.Verdict.the-variants.{Accepted}
 use Rattle.solids.specs.Solids.{Solid, solid, vertices, facets}
 use Rattle.solids.specs.Admission.{admission}
@@ -92,7 +93,7 @@ returns-3 c =
     let room : length (file s) ≤ length old = omega (arith, long e, v .before .before .if1 .left) in
     let put : c .before .before .put-end .last .0 ≡ onto (file s) old =
     rw (c .before .before .put-end .ensures, f .put-facets .ensures, v .put-vertices .ensures) (file-put s old room) in
-    sym (write-else s old (fine e) room ∙ (λ i. record { answer = 0; used = long e i; bytes = sym put i }))
+    sym (write-else s old (fine e) room ∙ (λ i. record { answer = no-refusal; used = long e i; bytes = sym put i }))
 
 pub write-spec : {M : Type 1} → statement M
 write-spec =
