@@ -46,9 +46,14 @@ extern "C" {
 #define OZORAVESH_INTERSECTION 1u
 #define OZORAVESH_DIFFERENCE 2u
 
+/* 0, or the number of a refusal. Every struct that a call answers with begins with one. */
+typedef struct {
+    uint32_t number;
+} ozoravesh_answer;
+
 /* What an operation answers, with the vertices and triangles of its result. */
 typedef struct {
-    uint32_t answer;
+    ozoravesh_answer answer;
     size_t vertices;
     size_t triangles;
 } ozoravesh_made;
@@ -56,13 +61,13 @@ typedef struct {
 /* What a point count answers, with how often the solid contains the point. The count of a badly
    shaped solid may be above 1 or below 0. */
 typedef struct {
-    uint32_t answer;
+    ozoravesh_answer answer;
     int32_t count;
 } ozoravesh_counted;
 
 /* What a reading answers, with the vertices and facets of the solid and the bytes of its file. */
 typedef struct {
-    uint32_t answer;
+    ozoravesh_answer answer;
     size_t vertices;
     size_t facets;
     size_t used;
@@ -70,7 +75,7 @@ typedef struct {
 
 /* What a call that fills one list answers, with how many numbers it put into the list's front. */
 typedef struct {
-    uint32_t answer;
+    ozoravesh_answer answer;
     size_t used;
 } ozoravesh_written;
 

@@ -143,7 +143,7 @@ static void answer_op(void) {
     ozoravesh_made m = ozoravesh_operate(
         code, ap.now, ap.length, ac.now, ac.length, bp.now, bp.length, bc.now, bc.length,
         points.now, points.length, corners.now, corners.length, origins.now, origins.length);
-    printf("%u %zu %zu\n", m.answer, m.vertices, m.triangles);
+    printf("%u %zu %zu\n", m.answer.number, m.vertices, m.triangles);
     put_vertices(points, m.vertices);
     for (size_t i = 0; i < m.triangles; i++) {
         printf("t");
@@ -165,7 +165,7 @@ static void answer_count(void) {
     ozoravesh_counted c = as_a
         ? ozoravesh_count_as_a(v[0], v[1], v[2], sp.now, sp.length, sc.now, sc.length)
         : ozoravesh_count_as_b(v[0], v[1], v[2], sp.now, sp.length, sc.now, sc.length);
-    printf("%u %d\n", c.answer, c.count);
+    printf("%u %d\n", c.answer.number, c.count);
     done(pt), done(sp), done(sc);
 }
 
@@ -200,7 +200,7 @@ static void answer_read(void) {
     list corners = room(decimal(), sizeof(uint32_t));
     ozoravesh_was_read r = ozoravesh_read(
         bytes.now, bytes.length, points.now, points.length, corners.now, corners.length);
-    printf("%u %zu %zu %zu\n", r.answer, r.vertices, r.facets, r.used);
+    printf("%u %zu %zu %zu\n", r.answer.number, r.vertices, r.facets, r.used);
     put_vertices(points, r.vertices);
     for (size_t i = 0; i < r.facets; i++) {
         printf("f");
@@ -219,8 +219,8 @@ static void answer_write(void) {
     list bytes = room(decimal(), 1);
     ozoravesh_written w =
         ozoravesh_write(sp.now, sp.length, sc.now, sc.length, bytes.now, bytes.length);
-    printf("%u %zu\n", w.answer, w.used);
-    if (w.answer == 0) {
+    printf("%u %zu\n", w.answer.number, w.used);
+    if (w.answer.number == 0) {
         printf("b ");
         for (size_t i = 0; i < w.used; i++) {
             printf("%02x", ((uint8_t *)bytes.now)[i]);
@@ -234,7 +234,7 @@ static void answer_write(void) {
 static void answer_solid(void) {
     list bytes = octets();
     ozoravesh_made m = ozoravesh_program(bytes.now, bytes.length);
-    printf("%u %zu %zu\n", m.answer, m.vertices, m.triangles);
+    printf("%u %zu %zu\n", m.answer.number, m.vertices, m.triangles);
     done(bytes);
 }
 

@@ -104,7 +104,7 @@ static void admission(void) {
 }
 
 static int counts(ozoravesh_counted c, uint32_t answer, int32_t count) {
-    return c.answer == answer && c.count == count;
+    return c.answer.number == answer && c.count == count;
 }
 
 static void containment(void) {
@@ -137,7 +137,7 @@ static void containment(void) {
 }
 
 static int fills(ozoravesh_written w, uint32_t answer, size_t used) {
-    return w.answer == answer && w.used == used;
+    return w.answer.number == answer && w.used == used;
 }
 
 static void showing(void) {
@@ -160,7 +160,7 @@ static void showing(void) {
 }
 
 static int is_read(ozoravesh_was_read r, uint32_t answer, size_t vertices, size_t facets, size_t used) {
-    return r.answer == answer && r.vertices == vertices && r.facets == facets && r.used == used;
+    return r.answer.number == answer && r.vertices == vertices && r.facets == facets && r.used == used;
 }
 
 static void files(void) {
@@ -204,7 +204,7 @@ static void files(void) {
 }
 
 static int makes(ozoravesh_made m, uint32_t answer, size_t vertices, size_t triangles) {
-    return m.answer == answer && m.vertices == vertices && m.triangles == triangles;
+    return m.answer.number == answer && m.vertices == vertices && m.triangles == triangles;
 }
 
 static void operations(void) {

@@ -52,7 +52,7 @@ int main(void) {
     paint();
     ozoravesh_made made = call();
     size_t bytes = overwritten();
-    if (made.answer != 0) {
+    if (made.answer.number != 0) {
         printf("stack: the operation was refused\n");
         return 1;
     }

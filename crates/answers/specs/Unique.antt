@@ -5,7 +5,7 @@ use mathlib.Core.List.{List}
 use lib.Ieee.{Float}
 use Rattle.points.specs.declared.Point.{Point}
 use Rattle.solids.specs.Solids.{Solid}
-use Rattle.solids.specs.Admission.{Admit, AdmitAnswer, AdmitPoint}
+use Rattle.solids.specs.Admission.{Admit, Judged, AdmitPoint}
 use Rattle.solids.specs.Containment.{CountAsA, CountAsB}
 use Rattle.results.specs.Operation.{Lent, Operate}
 use Rattle.results.specs.Origin.{Part, Shown}
@@ -24,7 +24,7 @@ pub record Unique : Type 0 where
   pub count-as-a : (v : Point) (s : Solid) → One (CountAsA v s)
   pub count-as-b : (v : Point) (s : Solid) → One (CountAsB v s)
   -- checks::admission::admit and admit_point
-  pub admit : (s : Solid) → One (Admit s)
+  pub judged : (s : Solid) → One (Judged s)
   pub admit-point : (v : Point) → One (AdmitPoint v)
   -- origins::shown
   pub shown : (a b : Part) (origin : ℕ) → One (Shown a b origin)
@@ -35,5 +35,5 @@ pub record Unique : Type 0 where
   pub program : (input : List ℕ) → One (Program input)
   pub printed : (input : List ℕ) → One (Printed input)
   -- capi: `ozoravesh_admit` tells the verdict's number, and `ozoravesh_shown` copies what is shown; the other calls for C cite a relation above
-  pub admit-answer : (s : Solid) → One (AdmitAnswer s)
+  pub admit : (s : Solid) → One (Admit s)
   pub shown-copied : (a b : Part) (origin : ℕ) (lent : List ℕ) → One (ShownCopied a b origin lent)

@@ -80,7 +80,10 @@ pub extern "C" fn ozoravesh_shown<'a>(
 {
     let found = origins::shown(ac, bc, origin);
     if part.len() < found.len() {
-        return Written { answer: Answer { number: 8 }, used: 0 };
+        return Written {
+            answer: Answer { number: 8 },
+            used: 0,
+        };
     }
     files::reader::copy_corners(found, part);
     Written {

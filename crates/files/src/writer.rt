@@ -56,7 +56,10 @@ pub fn write(points: &[f64], corners: &[u32], bytes: &mut [u8]) -> Written
     let facets_at = 26 * (points.len() / 3);
     let end_at = facets_at + 14 * (corners.len() / 3);
     if bytes.len() < end_at + 2 {
-        return Written { answer: Answer { number: 8 }, used: 0 };
+        return Written {
+            answer: Answer { number: 8 },
+            used: 0,
+        };
     }
     put_vertices(points, bytes);
     put_facets(corners, bytes, facets_at);

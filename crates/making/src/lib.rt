@@ -3,8 +3,8 @@ pub mod sides;
 
 use building::Sizes;
 use results::Made;
-use solids::Answer;
 use results::Operation;
+use solids::Answer;
 ghost use mathlib.Core.Path.{_≡_};
 ghost use mathlib.Core.Bool.{_||_};
 ghost use Prim.Native.Nat.{_+_, _*_, _≤_};

@@ -12,7 +12,7 @@ answer-requires : tie.Need-answer-requires
 answer-requires c κs = search needs
 
 returns : tie.Need-returns
-returns c = c .answer .ensures ∙ ap answer (c .before .admit .ensures)
+returns c = ap (λ a. a .number) (c .answer .ensures ∙ ap answer (c .before .admit .ensures))
 
 pub ozoravesh-admit-spec : {M : Type 1} → statement M
 ozoravesh-admit-spec = tie.close (tie.spec admit-requires answer-requires returns)
