@@ -13,10 +13,10 @@ use Rattle.programs.proofs.numbers.line_of.Tie as tie
 
 -- the three numbers' digits fit
 bounds : (c : tie.Start)
-    → (length (digits (c .args .made .answer)) ≤ 10) × (length (digits (c .args .made .vertices)) ≤ 20) × (length (digits (c .args .made .triangles)) ≤ 20)
+    → (length (digits (c .args .made .answer .number)) ≤ 10) × (length (digits (c .args .made .vertices)) ≤ 20) × (length (digits (c .args .made .triangles)) ≤ 20)
 bounds c =
     let g = c .good .0 .1 .1 in
-    (few-digits 9 _ (omega (arith, g .0 .1)), few-digits 19 _ (omega (arith, g .1 .0 .1)), few-digits 19 _ (omega (arith, g .1 .1 .0 .1)))
+    (few-digits 9 _ (omega (arith, g .0 .1 .1 .0 .1)), few-digits 19 _ (omega (arith, g .1 .0 .1)), few-digits 19 _ (omega (arith, g .1 .1 .0 .1)))
 
 cast-put-number : tie.Need-cast-put-number
 cast-put-number c = search needs
