@@ -2,16 +2,16 @@
 //   bench head                 the table's head
 //   bench rows CASE REPEATS    the rows of a case, by its number from 0; each time is the best of so many
 //   bench once SIDE CASE OP    one operation by one side (ours, cgal or manifold), for a trace
-//   bench profile CASE OP      the library's operation ten times: where it stood whenever a timer rang, as addresses
+//   bench profile CASE OP      the library's operation fifty times: where it stood whenever a timer rang, as addresses
 //   bench names                the cases, one a line
 #include "sides.h"
 #include <algorithm>
-#include <chrono>
 #include <cstdio>
 #include <cstdlib>
 #include <cstring>
 #include <signal.h>
 #include <sys/time.h>
+#include <time.h>
 #include <ucontext.h>
 
 using Side = void (*)(uint32_t, const Body &, const Body &, Out &);
@@ -49,14 +49,20 @@ static bool closed(const Out &out) {
     return std::all_of(count.begin(), count.end(), [](const auto &c) { return c.second == 0; });
 }
 
-// The best of so many times, in microseconds.
+// The processor's time so far, in microseconds: the machine may have other work, and no side has threads.
+static double now() {
+    timespec t;
+    clock_gettime(CLOCK_PROCESS_CPUTIME_ID, &t);
+    return 1e6 * double(t.tv_sec) + 1e-3 * double(t.tv_nsec);
+}
+
+// The best of so many times.
 static double best(Side side, uint32_t code, const Case &c, Out &out, int repeats) {
     double found = 1e300;
     for (int i = 0; i < repeats; i++) {
-        const auto start = std::chrono::steady_clock::now();
+        const double start = now();
         side(code, c.a, c.b, out);
-        const auto end = std::chrono::steady_clock::now();
-        found = std::min(found, std::chrono::duration<double, std::micro>(end - start).count());
+        found = std::min(found, now() - start);
     }
     return found;
 }
@@ -87,7 +93,7 @@ static void profile(const Case &c, uint32_t code) {
     sigaction(SIGPROF, &action, nullptr);
     const itimerval every = {{0, 1000}, {0, 1000}}, never = {};
     setitimer(ITIMER_PROF, &every, nullptr);
-    for (int i = 0; i < 10; i++) {
+    for (int i = 0; i < 50; i++) {
         measured_ours(code, c.a, c.b, out);
     }
     setitimer(ITIMER_PROF, &never, nullptr);
