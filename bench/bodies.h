@@ -42,6 +42,13 @@ inline Body moved(Body s, Vec by) {
     return s;
 }
 
+inline Body sized(Body s, double by) {
+    for (double &x : s.points) {
+        x *= by;
+    }
+    return s;
+}
+
 // Turned about z, then y, then x, by angles that no facet of a body here has any relation to.
 inline Body turned(Body s) {
     const double c = std::cos(0.3), d = std::sin(0.3), e = std::cos(0.5), f = std::sin(0.5), g = std::cos(0.7), h = std::sin(0.7);
@@ -154,6 +161,10 @@ inline std::vector<Case> cases() {
         {"convex, 128 facets", c128, moved(turned(c128), aside)},
         {"convex, 252 facets", c252, moved(turned(c252), aside)},
         {"spiky, 252 facets", spiky, moved(turned(spiky), aside)},
+        {"252 facets, far apart by x", c252, moved(turned(c252), {5, aside[1], aside[2]})},
+        {"252 facets, far apart by y", c252, moved(turned(c252), {aside[0], 5, aside[2]})},
+        {"252 facets, far apart by z", c252, moved(turned(c252), {aside[0], aside[1], 5})},
+        {"252 facets, one inside the other", c252, moved(sized(turned(c252), 0.25), aside)},
         {"boxes sharing a face", box(), moved(box(), {1, 0, 0})},
         {"boxes sharing an edge", box(), moved(box(), {1, 1, 0})},
         {"boxes sharing a vertex", box(), moved(box(), {1, 1, 1})},

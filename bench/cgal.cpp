@@ -1,4 +1,4 @@
-// The peer's side: CGAL's corefinement, exact predicates and inexact constructions. Its meshes are built from the lists, and its result is
+// The side of CGAL: its corefinement, exact predicates and inexact constructions. Its meshes are built from the lists, and its result is
 // written to lists that have the room already.
 #include "sides.h"
 #include <CGAL/Exact_predicates_inexact_constructions_kernel.h>

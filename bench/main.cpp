@@ -1,19 +1,33 @@
-// Runs every case by both sides and prints a table: times, their ratio, and each result's size and whether it is closed.
-//   bench REPEATS            the table; each time is the best of so many
-//   bench once SIDE CASE OP  one operation by one side (ours, cgal or none), for a profiler: the case by its number from 0
-//   bench profile CASE OP    the library's operation ten times: where it stood whenever a timer rang, as addresses
-//   bench names              the cases, one a line
+// Runs one case by every side and prints rows of a table: times, their ratios, and each result.
+//   bench head                 the table's head
+//   bench rows CASE REPEATS    the rows of a case, by its number from 0; each time is the best of so many
+//   bench once SIDE CASE OP    one operation by one side (ours, cgal or manifold), for a trace
+//   bench profile CASE OP      the library's operation fifty times: where it stood whenever a timer rang, as addresses
+//   bench names                the cases, one a line
 #include "sides.h"
 #include <algorithm>
-#include <chrono>
 #include <cstdio>
 #include <cstdlib>
 #include <cstring>
 #include <signal.h>
 #include <sys/time.h>
+#include <time.h>
 #include <ucontext.h>
 
 using Side = void (*)(uint32_t, const Body &, const Body &, Out &);
+
+struct Peer {
+    const char *name;
+    const char *shown;
+    Side side;
+};
+
+// Those that are in the program.
+static std::vector<Peer> peers() {
+    std::vector<Peer> all = {{"cgal", "CGAL", measured_cgal}, {"manifold", "Manifold", measured_manifold}};
+    all.erase(std::remove_if(all.begin(), all.end(), [](const Peer &p) { return p.side == nullptr; }), all.end());
+    return all;
+}
 
 static Out room() {
     Out out;
@@ -35,23 +49,29 @@ static bool closed(const Out &out) {
     return std::all_of(count.begin(), count.end(), [](const auto &c) { return c.second == 0; });
 }
 
-// The best of so many times, in microseconds.
+// The processor's time so far, in microseconds: the machine may have other work, and no side has threads.
+static double now() {
+    timespec t;
+    clock_gettime(CLOCK_PROCESS_CPUTIME_ID, &t);
+    return 1e6 * double(t.tv_sec) + 1e-3 * double(t.tv_nsec);
+}
+
+// The best of so many times.
 static double best(Side side, uint32_t code, const Case &c, Out &out, int repeats) {
     double found = 1e300;
     for (int i = 0; i < repeats; i++) {
-        const auto start = std::chrono::steady_clock::now();
+        const double start = now();
         side(code, c.a, c.b, out);
-        const auto end = std::chrono::steady_clock::now();
-        found = std::min(found, std::chrono::duration<double, std::micro>(end - start).count());
+        found = std::min(found, now() - start);
     }
     return found;
 }
 
 static void say(const Out &out) {
     if (out.made) {
-        std::printf(" %zu | %zu | %s |", out.vertices, out.triangles, closed(out) ? "yes" : "NO");
+        std::printf(" %zu, %zu%s |", out.vertices, out.triangles, closed(out) ? "" : ", NOT CLOSED");
     } else {
-        std::printf(" | | no result |");
+        std::printf(" no result |");
     }
 }
 
@@ -73,7 +93,7 @@ static void profile(const Case &c, uint32_t code) {
     sigaction(SIGPROF, &action, nullptr);
     const itimerval every = {{0, 1000}, {0, 1000}}, never = {};
     setitimer(ITIMER_PROF, &every, nullptr);
-    for (int i = 0; i < 10; i++) {
+    for (int i = 0; i < 50; i++) {
         measured_ours(code, c.a, c.b, out);
     }
     setitimer(ITIMER_PROF, &never, nullptr);
@@ -82,50 +102,89 @@ static void profile(const Case &c, uint32_t code) {
     }
 }
 
-static void table(int repeats) {
+static void head() {
+    std::printf("| Case | Operation | Ours, us |");
+    for (const Peer &p : peers()) {
+        std::printf(" %s, us | Ours / %s |", p.shown, p.shown);
+    }
+    std::printf(" Vertices and triangles of ours |");
+    for (const Peer &p : peers()) {
+        std::printf(" of %s |", p.shown);
+    }
+    std::printf("\n|---|---|--:|");
+    for (size_t i = 0; i < peers().size(); i++) {
+        std::printf("--:|--:|");
+    }
+    std::printf("---|");
+    for (size_t i = 0; i < peers().size(); i++) {
+        std::printf("---|");
+    }
+    std::printf("\n");
+}
+
+static void rows(const Case &c, int repeats) {
     static const char *names[3] = {"union", "intersection", "difference"};
-    std::printf("| Case | Operation | Ours, us | Vertices | Triangles | Closed | CGAL, us | Vertices | Triangles | Closed | Ours / CGAL |\n");
-    std::printf("|---|---|--:|--:|--:|---|--:|--:|--:|---|--:|\n");
-    Out ours = room(), peer = room();
-    for (const Case &c : cases()) {
-        for (uint32_t code = 0; code < 3; code++) {
-            const double t = best(measured_ours, code, c, ours, repeats);
-            const double u = best(measured_cgal, code, c, peer, repeats);
-            std::printf("| %s | %s | %.0f |", c.name.c_str(), names[code], t);
-            say(ours);
-            std::printf(" %.0f |", u);
-            say(peer);
-            if (ours.made && peer.made) {
-                std::printf(" %.3f |\n", t / u);
+    Out ours = room();
+    std::vector<Out> theirs(peers().size(), room());
+    for (uint32_t code = 0; code < 3; code++) {
+        const double t = best(measured_ours, code, c, ours, repeats);
+        std::printf("| %s | %s | %.0f |", c.name.c_str(), names[code], t);
+        for (size_t i = 0; i < theirs.size(); i++) {
+            const double u = best(peers()[i].side, code, c, theirs[i], repeats);
+            if (ours.made && theirs[i].made) {
+                std::printf(" %.0f | %.2f |", u, t / u);
             } else {
-                std::printf(" |\n");
+                std::printf(" %.0f | |", u);
             }
-            std::fflush(stdout);
         }
+        say(ours);
+        for (const Out &out : theirs) {
+            say(out);
+        }
+        std::printf("\n");
+        std::fflush(stdout);
     }
 }
 
-int main(int argc, char **argv) {
-    if (argc == 5 && std::strcmp(argv[1], "once") == 0) {
-        const Case c = cases().at(std::strtoul(argv[3], nullptr, 10));
-        Out out = room();
-        if (std::strcmp(argv[2], "none") != 0) {
-            const Side side = std::strcmp(argv[2], "ours") == 0 ? measured_ours : measured_cgal;
-            side(static_cast<uint32_t>(std::atoi(argv[4])), c.a, c.b, out);
+// One operation by the side of that name, if it is in the program.
+static bool once(const char *name, const Case &c, uint32_t code) {
+    std::vector<Peer> sides = peers();
+    sides.push_back({"ours", "", measured_ours});
+    for (const Peer &p : sides) {
+        if (std::strcmp(name, p.name) == 0) {
+            Out out = room();
+            p.side(code, c.a, c.b, out);
+            std::printf("%d %zu %zu\n", out.made, out.vertices, out.triangles);
+            return true;
         }
-        std::printf("%d %zu %zu\n", out.made, out.vertices, out.triangles);
-        return 0;
     }
-    if (argc == 4 && std::strcmp(argv[1], "profile") == 0) {
-        profile(cases().at(std::strtoul(argv[2], nullptr, 10)), static_cast<uint32_t>(std::atoi(argv[3])));
-        return 0;
-    }
-    if (argc == 2 && std::strcmp(argv[1], "names") == 0) {
+    return false;
+}
+
+static Case by_number(const char *text) {
+    return cases().at(std::strtoul(text, nullptr, 10));
+}
+
+static uint32_t number(const char *text) {
+    return static_cast<uint32_t>(std::strtoul(text, nullptr, 10));
+}
+
+int main(int argc, char **argv) {
+    const std::string what = argc < 2 ? "" : argv[1];
+    if (what == "head" && argc == 2) {
+        head();
+    } else if (what == "rows" && argc == 4) {
+        rows(by_number(argv[2]), std::max(1, std::atoi(argv[3])));
+    } else if (what == "once" && argc == 5) {
+        return once(argv[2], by_number(argv[3]), number(argv[4])) ? 0 : 1;
+    } else if (what == "profile" && argc == 4) {
+        profile(by_number(argv[2]), number(argv[3]));
+    } else if (what == "names" && argc == 2) {
         for (const Case &c : cases()) {
             std::printf("%s\n", c.name.c_str());
         }
-        return 0;
+    } else {
+        return 1;
     }
-    table(argc == 2 ? std::max(1, std::atoi(argv[1])) : 5);
     return 0;
 }

@@ -1,5 +1,6 @@
 # Divides the instructions of one operation by part of the work, and prints a table:
-#   awk -f bench/parts.awk SYMBOLS TRACE
+#   awk -v side=SIDE -v total=FILE -f bench/parts.awk SYMBOLS TRACE
+# SIDE is whose operation it is, and FILE gets the number of its instructions. The parts are ours: of a peer the number alone is of use.
 # SYMBOLS is `nm -C` of the program, sorted. TRACE (- for standard input) is the emulator's log by `-d nochain,exec,op`: each block of
 # instructions when it is translated, with every instruction's address, and a block's address each time that it runs.
 #
@@ -19,7 +20,7 @@ BEGIN {
     part("pieces and triangles, measured", "building::triangles::put_triangles", 1)
     part("writing of the points", "")
     part("pieces and triangles, written", "building::triangles::put_triangles")
-    operation = "measured_ours"
+    operation = "measured_" side
     FS = "/"
 }
 
@@ -193,6 +194,7 @@ END {
     for (k = 1; k <= rows; k++) {
         printf "| %s | %s | %.1f %% | %s | %s |\n", names[k], shown(count[k]), 100 * count[k] / all, shown(own[k]), shown(repeats[k])
     }
+    print shown(all) >total
     printf "| together | %s | | %s | %s |\n", shown(all), shown(all_own), shown(all_repeats)
     for (r = 1; r <= parts; r++) {
         n = split(does[r], fs, " ")

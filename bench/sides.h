@@ -1,4 +1,4 @@
-// What is measured: one operation, lists in and lists out, by the library and by a peer.
+// What is measured: one operation, lists in and lists out, by the library and by its peers.
 #pragma once
 #include "bodies.h"
 
@@ -12,8 +12,9 @@ struct Out {
     std::vector<uint32_t> origins;
 };
 
-// Unmangled, so that a profiler can be told to collect in them alone.
+// Unmangled, so that a trace can be told to begin there. The peers are weak: where one cannot be had it is left out of the program.
 extern "C" {
 void measured_ours(uint32_t code, const Body &a, const Body &b, Out &out);
-void measured_cgal(uint32_t code, const Body &a, const Body &b, Out &out);
+__attribute__((weak)) void measured_cgal(uint32_t code, const Body &a, const Body &b, Out &out);
+__attribute__((weak)) void measured_manifold(uint32_t code, const Body &a, const Body &b, Out &out);
 }
