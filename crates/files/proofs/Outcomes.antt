@@ -1,6 +1,6 @@
 -- What the two calls answer. The reader's 9, 2 and 8 by the numbers that a walk found, and past them the solid's admission; the writer's admission,
 -- then 8 by the length of the file.
-use mathlib.Core.Path.{_≡_, refl, sym, ap, ap₂, _∙_, subst}
+use mathlib.Core.Path.{_≡_, sym, ap, ap₂, _∙_, subst}
 use mathlib.Core.Bool.{false, _||_}
 use mathlib.Core.List.{List, [], _∷_, _++_}
 use Prim.Native.Nat.{ℕ, _+_, _*_, _≤_}
