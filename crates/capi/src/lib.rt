@@ -81,7 +81,7 @@ pub extern "C" fn ozoravesh_shown<'a>(
     if part.len() < found.len() {
         return Written { answer: 8, used: 0 };
     }
-    files::reader::copy_corners(found, part);
+    lists::copy_corners(found, part);
     Written {
         answer: 0,
         used: found.len(),

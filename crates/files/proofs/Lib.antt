@@ -1,4 +1,5 @@
 pub mod Stores
+pub mod Kept
 pub mod Walks
 pub mod Blanks
 pub mod Outcomes

@@ -13,6 +13,7 @@ use lib.Ieee.{Float}
 use borrow.Author.Tests.{ltb-false}
 use Rattle.sums.specs.Lists.{onto}
 use Rattle.sums.proofs.Tests.{never, or-false}
+use Rattle.lists.proofs.Stores.{sets-onto, sets-three, length-run}
 use Rattle.solids.specs.declared.Verdict.{Verdict}
 use Rattle.solids.specs.declared.Verdict.the-variants.{Accepted, Refused}
 use Rattle.solids.specs.Refusals.{answer, in-order}
@@ -26,7 +27,6 @@ use Rattle.housefile.specs.Records.{encoded}
 use Rattle.housefile.specs.Reader.{Layout, fault, laid, unread, reading, too-short, read-solid, by-layout}
 use Rattle.housefile.specs.Writer.{file}
 use Rattle.files.specs.Walking.{Found, Scanned, many, short, by-numbers, refusal, handed-over, vertex-part, facet-part}
-use Rattle.files.proofs.Stores.{sets-onto, sets-three, length-run}
 use Rattle.housefile.proofs.Records.{length-encoded}
 use Rattle.housefile.proofs.Refusals.{later-checks, even, read-as-admission}
 

@@ -1,9 +1,9 @@
--- `store` meets its contract.
+-- `store` meets its contract: a store beyond the end leaves the list.
 use mathlib.Core.Path.{sym}
 use borrow.Author.Needs.{needs}
 use lib.Seq.{set-out}
-use Rattle.laying.proofs.fan.store.Statement.{statement}
-use Rattle.laying.proofs.fan.store.Tie as tie
+use Rattle.lists.proofs.store.Statement.{statement}
+use Rattle.lists.proofs.store.Tie as tie
 
 mul-list : tie.Need-mul-list
 mul-list c = search needs

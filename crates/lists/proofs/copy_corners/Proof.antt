@@ -1,22 +1,19 @@
 -- `copy_corners` meets its contract: the elements below i are copied.
-use mathlib.Core.Path.{_≡_, refl, sym, _∙_}
-use Prim.Native.Nat.{_-_, _≤_}
-use native.Mathlib.Omega.{arith}
-use lib.ListN.{length, drop, length-set}
-use lib.Seq.{sets}
+use Prim.Native.Nat.{_-_}
+use lib.ListN.{length}
 use borrow.Author.Needs.{needs}
-use Rattle.files.proofs.Stores.{sets-onto, left-to-copy, all-copied}
-use Rattle.files.proofs.reader.copy_corners.Statement.{statement}
-use Rattle.files.proofs.reader.copy_corners.Tie as tie
+use Rattle.lists.proofs.Stores.{Copied, copied-none, copied-next, copied-all}
+use Rattle.lists.proofs.copy_corners.Statement.{statement}
+use Rattle.lists.proofs.copy_corners.Tie as tie
 
 abbrev Inv-loop : tie.InvT-loop
-Inv-loop from to₀ i₀ to i = (i ≤ length from) × (length to ≡ length to₀) × (sets to i (drop i from) ≡ sets to₀ 0 from)
+Inv-loop from to₀ i₀ to i = Copied from to₀ to i
 
 abbrev μ-loop : tie.MeasureT-loop
 μ-loop from to₀ i₀ to i = length from - i
 
 loop-holds : tie.Need-loop-holds Inv-loop μ-loop
-loop-holds c = (omega arith, refl, refl)
+loop-holds c = copied-none _ _
 
 mul-to : tie.Need-mul-to Inv-loop μ-loop
 mul-to c = search needs
@@ -37,19 +34,13 @@ loop-less : tie.Need-loop-less Inv-loop μ-loop
 loop-less c = search needs
 
 loop-again : tie.Need-loop-again Inv-loop μ-loop
-loop-again c =
-    let l = c .before .before .loop in
-    let from = c .before .before .before .args .from .now in
-    (omega arith, simp length-set (l .inv .1), left-to-copy (l .to) from (l .i) _ (c .before .loop-test .taken) ∙ l .inv .2)
+loop-again c = copied-next (c .before .before .loop .inv) _ (c .before .loop-test .taken)
 
 same-length : tie.Need-same-length Inv-loop μ-loop
 same-length c = search needs
 
 returns : tie.Need-returns Inv-loop μ-loop
-returns c =
-    let l = c .before .loop in
-    let a = c .before .before .args in
-    sym (all-copied (l .to) (a .from .now) (l .i) (c .loop-test .left)) ∙ l .inv .2 ∙ sets-onto (a .to .now) (a .from .now) (c .before .before .pre)
+returns c = copied-all (c .before .loop .inv) (c .loop-test .left) (c .before .before .pre)
 
 pub copy-corners-spec : {M : Type 1} → statement M
 copy-corners-spec =

@@ -1,11 +1,10 @@
--- `put_three` meets its contract: three stores, each where there is room.
-use mathlib.Core.Path.{_≡_}
-use Prim.Native.Nat.{suc, _+_}
+-- `put_point` meets its contract: three stores, each where there is room.
 use native.Mathlib.Omega.{arith}
-use lib.ListN.{set, length-set}
+use lib.ListN.{length-set}
 use borrow.Author.Needs.{needs}
-use Rattle.halves.proofs.put_three.Statement.{statement}
-use Rattle.halves.proofs.put_three.Tie as tie
+use Rattle.lists.proofs.Stores.{three-stores}
+use Rattle.lists.proofs.put_point.Statement.{statement}
+use Rattle.lists.proofs.put_point.Tie as tie
 
 mul-list : tie.Need-mul-list
 mul-list c = search needs
@@ -20,7 +19,7 @@ mul-list-2 : tie.Need-mul-list-2
 mul-list-2 c = search needs
 
 slice-write-list-2 : tie.Need-slice-write-list-2
-slice-write-list-2 c = let a = c .args in omega (arith, c .pre, length-set (a .list .now) (a .at) (a .a))
+slice-write-list-2 c = simp length-set (omega arith)
 
 add-list-2 : tie.Need-add-list-2
 add-list-2 c = search needs
@@ -29,21 +28,16 @@ mul-list-3 : tie.Need-mul-list-3
 mul-list-3 c = search needs
 
 slice-write-list-3 : tie.Need-slice-write-list-3
-slice-write-list-3 c =
-    let a = c .args in
-    omega (arith, c .pre, length-set (a .list .now) (a .at) (a .a), length-set (set (a .list .now) (a .at) (a .a)) (a .at + 1) (a .b))
+slice-write-list-3 c = simp length-set (omega arith)
 
 same-length : tie.Need-same-length
 same-length c = search needs
 
 returns : tie.Need-returns
-returns c =
-    let x : c .args .at + 1 ≡ suc (c .args .at) = omega arith in
-    let y : c .args .at + 2 ≡ suc (suc (c .args .at)) = omega arith in
-    rw (x, y)
+returns c = let a = c .args in three-stores (a .list .now) (a .at) (a .v .x) (a .v .y) (a .v .z)
 
-pub put-three-spec : {M : Type 1} → statement M
-put-three-spec =
+pub put-point-spec : {M : Type 1} → statement M
+put-point-spec =
     tie.close
     (tie.spec
     mul-list
