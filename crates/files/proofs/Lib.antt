@@ -1,4 +1,3 @@
-pub mod Stores
 pub mod Kept
 pub mod Walks
 pub mod Blanks
