@@ -85,7 +85,7 @@ pub extern "C" fn ozoravesh_shown<'a>(
             used: 0,
         };
     }
-    files::reader::copy_corners(found, part);
+    lists::copy_corners(found, part);
     Written {
         answer: Answer { number: 0 },
         used: found.len(),

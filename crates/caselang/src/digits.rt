@@ -1,7 +1,5 @@
 // Numbers and bytes of a word's letters.
-ghost use mathlib.Core.Path.{_≡_};
 ghost use Prim.Native.Nat.{_+_, _*_, _<_, _≤_};
-ghost use lib.Ieee.{binary64, nanBits};
 ghost use lib.ListN.{length};
 
 // A number that a word stands for, if it stands for one.
@@ -60,21 +58,6 @@ pub fn number_of(word: &[u8], base: usize) -> Number
         i += 1;
     }
     sum
-}
-
-// Whether a bit pattern is a NaN's.
-fn blank_bits(pattern: u64) -> bool
-    ensures { λ r. ⌜ r ≡ nanBits binary64 pattern ⌝ }
-{
-    pattern % 9223372036854775808 > 9218868437227405312
-}
-
-// The f64 of a bit pattern. Every pattern of a NaN gives the same one.
-pub fn float(pattern: u64) -> f64 {
-    if blank_bits(pattern) {
-        return 0.0 / 0.0;
-    }
-    f64::from_bits(pattern)
 }
 
 // The n bytes that a word of two hex digits each stands for, put at the start of bytes. Answers whether the word is one of n bytes.

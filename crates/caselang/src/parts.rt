@@ -5,6 +5,7 @@ use crate::input;
 use crate::input::Buffer;
 use crate::input::Letters;
 use crate::input::Reader;
+use numbers::patterns;
 ghost use mathlib.Core.Path.{_≡_};
 ghost use Prim.Native.Nat.{_+_, _<_, _≤_};
 ghost use lib.ListN.{length};
@@ -137,7 +138,7 @@ fn coordinate(
 {
     let q = pattern(buffer, letters, r);
     if i < list.len() {
-        list[i] = digits::float(q.number as u64);
+        list[i] = patterns::float(q.number as u64);
     }
     q
 }

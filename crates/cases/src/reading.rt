@@ -1,5 +1,4 @@
 // Parts that requests have in common: a solid, a point, the room of an operation.
-use caselang::digits;
 use caselang::input::Buffer;
 use caselang::input::Letters;
 use caselang::input::Reader;
@@ -7,6 +6,7 @@ use caselang::parts;
 use caselang::parts::Coordinates;
 use caselang::parts::Corners;
 use caselang::requests;
+use numbers::patterns;
 use points::Point;
 ghost use Rattle.caselang.specs.Reading.{Sound};
 
@@ -59,9 +59,9 @@ pub fn point(buffer: &mut Buffer, letters: &mut Letters, r: Reader) -> Placed
     Placed {
         reader: z,
         point: Point {
-            x: digits::float(x.number as u64),
-            y: digits::float(y.number as u64),
-            z: digits::float(z.number as u64),
+            x: patterns::float(x.number as u64),
+            y: patterns::float(y.number as u64),
+            z: patterns::float(z.number as u64),
         },
     }
 }

@@ -12,7 +12,7 @@ use Rattle.sums.proofs.Sums.{sum-sub}
 use Rattle.sums.proofs.Tests.{not-false}
 use Rattle.points.specs.declared.Point.{Point}
 use Rattle.points.specs.declared.Axis.{Axis}
-use Rattle.points.specs.declared.Axis.the-variants.{X, Y, Z}
+use Rattle.points.specs.declared.Axis.the-variants.{X, Y}
 use Rattle.points.specs.Points.{at-least}
 use Rattle.crossings.specs.declared.Edge.{Edge}
 use Rattle.crossings.specs.declared.Facet.{Facet}

@@ -9,7 +9,7 @@ use Rattle.sums.specs.Lists.{sumOf, nonzero}
 use Rattle.sums.proofs.Sums.{All}
 use Rattle.points.specs.declared.Point.{Point}
 use Rattle.points.specs.declared.Axis.{Axis}
-use Rattle.points.specs.declared.Axis.the-variants.{X, Y, Z}
+use Rattle.points.specs.declared.Axis.the-variants.{X, Y}
 use Rattle.points.specs.Points.{placed}
 use Rattle.crossings.specs.declared.Edge.{Edge}
 use Rattle.crossings.specs.declared.Facet.{Facet}

@@ -14,6 +14,7 @@ use Rattle.sums.proofs.Sums.{All, all-at, all-mono, all-++, all-map-of, all-fla
 use Rattle.sums.proofs.Tests.{of-T, T-of, never, all-keep}
 use Rattle.sums.proofs.UpTo.{all-upTo, length-upTo, map-upTo-suc, flat-upTo-suc}
 use Rattle.sums.proofs.Closed.{same-half-sound, same-half-self}
+use Rattle.lists.proofs.Kept.{keep-append}
 use Rattle.solids.specs.Solids.{Solid, vertices, edges, Half, same-half, pairs, is-edge, half-edges, solid}
 use Rattle.solids.specs.Table.{place}
 use Rattle.edges.specs.Words.{seen, edges-seen, edges-of, edge-number, two-each, Listed}
@@ -37,15 +38,6 @@ seen-row n p =
 pub seen-all : (n : ℕ) → seen n n 0 ≡ pairs n
 unfolding seen upTo pairs
 seen-all n = append-nil (flatMap (row n) (upTo n))
-
-keep-append : {A : Type 0} (f : A → Bool) (s t : List A) → keep f (s ++ t) ≡ keep f s ++ keep f t
-unfolding keep
-keep-append f [] t = refl
-keep-append f (x ∷ s) t = go (f x) (keep-append f s t)
-  where
-    go : (b : Bool) → keep f (s ++ t) ≡ keep f s ++ keep f t → cond b (x ∷ keep f (s ++ t)) (keep f (s ++ t)) ≡ cond b (x ∷ keep f s) (keep f s) ++ keep f t
-    go true e = ap {B = List _} (λ l. x ∷ l) e
-    go false e = e
 
 keep-one : {A : Type 0} (f : A → Bool) (x : A) → keep f (x ∷ []) ≡ cond (f x) (x ∷ []) []
 unfolding keep

@@ -2,7 +2,7 @@
 ghost use mathlib.Core.Path.{_≡_};
 ghost use mathlib.Core.List.{[]};
 ghost use Prim.Native.Nat.{_+_, _*_, _<_, _≤_};
-ghost use lib.ListN.{length, set};
+ghost use lib.ListN.{set};
 ghost use Rattle.solids.specs.Solids as So;
 ghost use Rattle.solids.specs.Table as Ta;
 ghost use Rattle.edges.specs.Words as Wo;

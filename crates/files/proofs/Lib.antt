@@ -1,4 +1,4 @@
-pub mod Stores
+pub mod Kept
 pub mod Walks
 pub mod Blanks
 pub mod Outcomes

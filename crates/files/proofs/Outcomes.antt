@@ -1,6 +1,6 @@
 -- What the two calls answer. The reader's 9, 2 and 8 by the numbers that a walk found, and past them the solid's admission; the writer's admission,
 -- then 8 by the length of the file.
-use mathlib.Core.Path.{_≡_, refl, sym, ap, ap₂, _∙_, subst}
+use mathlib.Core.Path.{_≡_, sym, ap, ap₂, _∙_, subst}
 use mathlib.Core.Bool.{false, _||_}
 use mathlib.Core.List.{List, [], _∷_, _++_}
 use Prim.Native.Nat.{ℕ, _+_, _*_, _≤_}
@@ -13,6 +13,7 @@ use lib.Ieee.{Float}
 use borrow.Author.Tests.{ltb-false}
 use Rattle.sums.specs.Lists.{onto}
 use Rattle.sums.proofs.Tests.{never, or-false}
+use Rattle.lists.proofs.Stores.{sets-onto, sets-three, length-run}
 use Rattle.solids.specs.declared.Answer.{Answer}
 use Rattle.solids.specs.declared.Verdict.{Verdict}
 use Rattle.solids.specs.declared.Verdict.the-variants.{Accepted, Refused}
@@ -27,7 +28,6 @@ use Rattle.housefile.specs.Records.{encoded}
 use Rattle.housefile.specs.Reader.{Layout, fault, laid, unread, reading, too-short, read-solid, by-layout}
 use Rattle.housefile.specs.Writer.{file}
 use Rattle.files.specs.Walking.{Found, Scanned, many, short, by-numbers, refusal, handed-over, vertex-part, facet-part}
-use Rattle.files.proofs.Stores.{sets-onto, sets-three, length-run}
 use Rattle.housefile.proofs.Records.{length-encoded}
 use Rattle.housefile.proofs.Refusals.{later-checks, even, read-as-admission}
 

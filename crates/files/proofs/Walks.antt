@@ -18,7 +18,7 @@ use Rattle.housefile.specs.Records.{size, decoded}
 use Rattle.housefile.specs.Reader.{Layout, fault, laid, after, layout}
 use Rattle.files.specs.Walking.{stepped, points-of, corners-of, kept, Held, Scanned}
 use Rattle.housefile.proofs.Records.{size-within}
-use Rattle.files.proofs.Stores.{kept-nothing}
+use Rattle.files.proofs.Kept.{kept-nothing}
 use Rattle.housefile.proofs.Steps.{layout-from, at-end, at-fault, late-vertex, at-vertex, at-facet, after-none, after-after}
 
 -- ---- what is left

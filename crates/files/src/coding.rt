@@ -1,6 +1,6 @@
 // One record: its decoding, and its bytes put into a file.
-use crate::number;
 use housefile::Record;
+use numbers::in_bytes;
 use points::Point;
 ghost use mathlib.Core.Path.{_≡_};
 ghost use mathlib.Core.Bool.{false};
@@ -9,8 +9,8 @@ ghost use lib.ListN.{length};
 ghost use lib.Seq.{sets};
 ghost use lib.Ieee.{isNan};
 ghost use Rattle.sums.specs.Lists.{any};
+ghost use Rattle.numbers.specs.Numbers as Nu;
 ghost use Rattle.points.specs.Points.{coordinates};
-ghost use Rattle.housefile.specs.Numbers as Nu;
 ghost use Rattle.housefile.specs.Records as Rc;
 
 // The marks `VX`, `FC` and `EN` as numbers, low byte first.
@@ -24,7 +24,7 @@ fn corner_at(bytes: &[u8], at: usize) -> u32
     requires { ⌜ at + 4 ≤ length (now bytes) ⌝ }
     ensures { λ r. ⌜ r ≡ Nu.number-at at 4 (now (bytes .entry)) ⌝ }
 {
-    number::number_at(bytes, at, 4) as u32
+    in_bytes::number_at(bytes, at, 4) as u32
 }
 
 // The record that a file, or the rest of one, begins with.
@@ -34,15 +34,15 @@ pub fn decode(bytes: &[u8]) -> Record
     if bytes.len() < 2 {
         return Record::Fault;
     }
-    let mark = number::number_at(bytes, 0, 2);
+    let mark = in_bytes::number_at(bytes, 0, 2);
     if mark == VX {
         if bytes.len() < 26 {
             return Record::Fault;
         }
         return Record::Vx(Point {
-            x: number::float_at(bytes, 2),
-            y: number::float_at(bytes, 10),
-            z: number::float_at(bytes, 18),
+            x: in_bytes::float_at(bytes, 2),
+            y: in_bytes::float_at(bytes, 10),
+            z: in_bytes::float_at(bytes, 18),
         });
     }
     if mark == FC {
@@ -66,25 +66,25 @@ pub fn put_vertex(v: Point, bytes: &mut [u8], at: usize)
     requires { ⌜ (at + 26 ≤ length (now bytes)) × (any isNan (coordinates v) ≡ false) ⌝ }
     ensures { λ _. ⌜ now (bytes .exit) ≡ sets (now (bytes .entry)) at (Rc.encoded (Record.Vx v)) ⌝ }
 {
-    number::put_number(VX, 2, bytes, at);
-    number::put_float(v.x, bytes, at + 2);
-    number::put_float(v.y, bytes, at + 10);
-    number::put_float(v.z, bytes, at + 18);
+    in_bytes::put_number(VX, 2, bytes, at);
+    in_bytes::put_float(v.x, bytes, at + 2);
+    in_bytes::put_float(v.y, bytes, at + 10);
+    in_bytes::put_float(v.z, bytes, at + 18);
 }
 
 pub fn put_facet(p: u32, q: u32, r: u32, bytes: &mut [u8], at: usize)
     requires { ⌜ at + 14 ≤ length (now bytes) ⌝ }
     ensures { λ _. ⌜ now (bytes .exit) ≡ sets (now (bytes .entry)) at (Rc.encoded (Record.Fc p q r)) ⌝ }
 {
-    number::put_number(FC, 2, bytes, at);
-    number::put_number(p as u64, 4, bytes, at + 2);
-    number::put_number(q as u64, 4, bytes, at + 6);
-    number::put_number(r as u64, 4, bytes, at + 10);
+    in_bytes::put_number(FC, 2, bytes, at);
+    in_bytes::put_number(p as u64, 4, bytes, at + 2);
+    in_bytes::put_number(q as u64, 4, bytes, at + 6);
+    in_bytes::put_number(r as u64, 4, bytes, at + 10);
 }
 
 pub fn put_end(bytes: &mut [u8], at: usize)
     requires { ⌜ at + 2 ≤ length (now bytes) ⌝ }
     ensures { λ _. ⌜ now (bytes .exit) ≡ sets (now (bytes .entry)) at (Rc.encoded Record.En) ⌝ }
 {
-    number::put_number(EN, 2, bytes, at);
+    in_bytes::put_number(EN, 2, bytes, at);
 }

@@ -1,6 +1,5 @@
 // The reader and the writer of house files, in code.
 mod coding;
-mod number;
 pub mod reader;
 pub mod writer;
 

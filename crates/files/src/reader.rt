@@ -11,7 +11,6 @@ ghost use mathlib.Core.Path.{_≡_};
 ghost use mathlib.Core.List.{[], _∷_};
 ghost use Prim.Native.Nat.{_+_, _≤_, _<_, _^_};
 ghost use lib.ListN.{length};
-ghost use Rattle.sums.specs.Lists.{onto};
 ghost use Rattle.points.specs.Points.{coordinates};
 ghost use Rattle.solids.specs.Solids as So;
 ghost use Rattle.housefile.specs.Records as Rc;
@@ -59,9 +58,7 @@ fn keep_vertex(points: &mut [f64; 384], i: usize, v: Point)
     ensures { λ _. ⌜ now (points .exit) ≡ Wa.kept 128 i (coordinates v) (now (points .entry)) ⌝ }
 {
     if i < 128 {
-        points[3 * i] = v.x;
-        points[3 * i + 1] = v.y;
-        points[3 * i + 2] = v.z;
+        lists::put_point(v, points, 3 * i);
     }
 }
 
@@ -69,9 +66,7 @@ fn keep_facet(corners: &mut [u32; 768], f: usize, p: u32, q: u32, r: u32)
     ensures { λ _. ⌜ now (corners .exit) ≡ Wa.kept 256 f (p ∷ q ∷ r ∷ []) (now (corners .entry)) ⌝ }
 {
     if f < 256 {
-        corners[3 * f] = p;
-        corners[3 * f + 1] = q;
-        corners[3 * f + 2] = r;
+        lists::put_three(p, q, r, corners, 3 * f);
     }
 }
 
@@ -132,28 +127,6 @@ fn refusal(w: Walk, room_points: usize, room_corners: usize) -> Verdict
     Verdict::Accepted
 }
 
-fn copy_points(from: &[f64], to: &mut [f64])
-    requires { ⌜ length (now from) ≤ length (now to) ⌝ }
-    ensures { λ _. ⌜ now (to .exit) ≡ onto (now (from .entry)) (now (to .entry)) ⌝ }
-{
-    let mut i = 0;
-    while i < from.len() {
-        to[i] = from[i];
-        i += 1;
-    }
-}
-
-pub fn copy_corners(from: &[u32], to: &mut [u32])
-    requires { ⌜ length (now from) ≤ length (now to) ⌝ }
-    ensures { λ _. ⌜ now (to .exit) ≡ onto (now (from .entry)) (now (to .entry)) ⌝ }
-{
-    let mut i = 0;
-    while i < from.len() {
-        to[i] = from[i];
-        i += 1;
-    }
-}
-
 fn refused(answer: Answer) -> Read
     ensures { λ r. ⌜ r ≡ Wa.unread answer ⌝ }
 {
@@ -180,8 +153,8 @@ fn hand_over(
     if let Verdict::Refused(n) = said {
         return refused(n);
     }
-    copy_points(from_points, points);
-    copy_corners(from_corners, corners);
+    lists::copy_points(from_points, points);
+    lists::copy_corners(from_corners, corners);
     Read {
         answer: Answer { number: 0 },
         vertices: from_points.len() / 3,

@@ -3,8 +3,8 @@
 use mathlib.Core.Path.{_≡_, refl, sym, ap, _∙_}
 use mathlib.Core.Bool.{not}
 use mathlib.Core.List.{List, [], _∷_, _++_, flatMap, List·Memᴰ}
-use Prim.Native.Nat.{ℕ, suc, _+_, _*_, _≤_, _<_}
-use native.Mathlib.Nat.{add-zero, zero-add}
+use Prim.Native.Nat.{ℕ, _+_, _*_, _≤_, _<_}
+use native.Mathlib.Nat.{add-zero}
 use native.Mathlib.Omega.{arith}
 use borrow.Author.Tests.{lt-ltb, le-ltb}
 use lib.ListN.{length, getD, take, drop}
@@ -12,6 +12,7 @@ use lib.Seq.{sets, sets-eq, take-at}
 use Rattle.sums.specs.Lists.{upTo, one-if, onto}
 use Rattle.sums.proofs.Sums.{all-of, all-at, flat-ext-all, flat-append}
 use Rattle.sums.proofs.Threes as Th
+use Rattle.lists.proofs.Stores.{sets-append, sets-onto, sets-three}
 use Rattle.solids.specs.Solids.{Solid, Half, solid, vertices, facets, facet-half-edges, half-edges, edges, along, edge-of}
 use Rattle.solids.specs.Table.{place, counted, Low}
 use Rattle.solids.proofs.Tally.{counted-next, counted-length}
@@ -20,7 +21,6 @@ use Rattle.solids.proofs.Admitted.{Passed, Between}
 use Rattle.solids.proofs.Shut.{mem-edges, between}
 use Rattle.edges.specs.Words.{Listed, edges-of}
 use Rattle.edges.proofs.Edges.{listed-own}
-use Rattle.laying.proofs.Lists.{sets-append}
 use Rattle.tables.specs.Filled.{edge-number, half-numbers, half-list, halves}
 use Rattle.tables.proofs.Halves.{length-half-list, length-halves}
 use Rattle.halves.specs.Words.{three, threes}
@@ -40,9 +40,7 @@ module _ (numbers : List ℕ) where
       → l₃ ≡ sets l at (threes numbers (h ∷ i ∷ j ∷ []))
   unfolding threes flatMap
   put-three l at h i j e₁ e₂ e₃ =
-      let x : at + 3 ≡ suc (suc (suc at)) = omega arith in
-      let y : at + 6 ≡ suc (suc (suc (suc (suc (suc at))))) = omega arith in
-      e₃ ∙ rw (e₂, e₁, x, y)
+      e₃ ∙ rw (e₂, e₁) (sets-three l at (at + 3) (at + 6) (three numbers h) (three numbers i) (three numbers j) refl (omega arith))
 
   length-counted : (corners : List ℕ) (f : ℕ) → length (threes numbers (counted corners f)) ≡ 9 * f
   unfolding threes
@@ -64,8 +62,8 @@ module _ (numbers : List ℕ) where
       let new = facet-half-edges (solid [] corners) f in
       e₂ ∙ ap (λ k. sets k (at + 9 * f) (threes numbers new)) e₁
       ∙ ap (λ n. sets (sets l at (threes numbers (counted corners f))) (at + n) (threes numbers new)) (sym (length-counted corners f))
-      ∙ sym (ap (λ hs. sets l at (threes numbers hs)) (counted-next corners f) ∙ ap (sets l at) (threes-append (counted corners f) new)
-      ∙ sets-append l at (threes numbers (counted corners f)) (threes numbers new))
+      ∙ sets-append l at (threes numbers (counted corners f)) (threes numbers new)
+      ∙ sym (ap (λ hs. sets l at (threes numbers hs)) (counted-next corners f) ∙ ap (sets l at) (threes-append (counted corners f) new))
 
   pub put-none : (corners l : List ℕ) (at : ℕ) → l ≡ sets l at (threes numbers (counted corners 0))
   unfolding threes counted upTo flatMap
@@ -112,8 +110,7 @@ module _ (a b : Solid) (l : List ℕ) {l₁ l₂ : List ℕ} (room : 9 * (facets
   unfolding halves
   both-halves =
       let e : 9 * facets a ≡ 0 + length (half-list a) = omega (arith, length-half-list a) in
-      second ∙ rw (first, e) (sym (sets-append l 0 (half-list a) (half-list b))) ∙ sets-eq (halves a b) l 0 (omega (arith, length-halves a b))
-      ∙ rw (zero-add (length (halves a b)))
+      second ∙ rw (first, e) (sets-append l 0 (half-list a) (half-list b)) ∙ sets-onto l (halves a b) (omega (arith, length-halves a b))
 
   pub front-halves : take (9 * (facets a + facets b)) l₂ ≡ halves a b
   front-halves = rw both-halves (take-at (halves a b) _ (9 * (facets a + facets b)) (length-halves a b))

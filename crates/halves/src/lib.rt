@@ -1,6 +1,6 @@
 // The list of a solid's half-edges, from the table in which its edges' numbers stand.
 ghost use mathlib.Core.Path.{_≡_};
-ghost use mathlib.Core.List.{[], _∷_};
+ghost use mathlib.Core.List.{[]};
 ghost use Prim.Native.Nat.{_+_, _*_, _/_, _<_, _≤_};
 ghost use lib.ListN.{length};
 ghost use lib.Seq.{sets};
@@ -15,15 +15,6 @@ fn twice(n: u16) -> u32
     2 * (n as u32)
 }
 
-fn put_three(a: u32, b: u32, c: u32, list: &mut [u32], at: usize)
-    requires { ⌜ at + 3 ≤ length (now list) ⌝ }
-    ensures { λ r. ⌜ now (list .exit) ≡ sets (now (list .entry)) at (a ∷ b ∷ c ∷ []) ⌝ }
-{
-    list[at] = a;
-    list[at + 1] = b;
-    list[at + 2] = c;
-}
-
 // Twice its edge's number, and 1 more if it runs against it; the edge's start; its end.
 fn put_half(p: u32, q: u32, numbers: &[u16; 16384], list: &mut [u32], at: usize)
     requires { ⌜ (p < 128) × (q < 128) × (at + 3 ≤ length (now list)) ⌝ }
@@ -32,11 +23,11 @@ fn put_half(p: u32, q: u32, numbers: &[u16; 16384], list: &mut [u32], at: usize)
     if p < q {
         let k = tally::place(p, q);
         let e = twice(numbers[k]);
-        put_three(e, p, q, list, at);
+        lists::put_three(e, p, q, list, at);
     } else {
         let k = tally::place(q, p);
         let e = twice(numbers[k]);
-        put_three(e + 1, q, p, list, at);
+        lists::put_three(e + 1, q, p, list, at);
     }
 }
 

@@ -5,10 +5,10 @@ use Prim.Native.Nat.{ℕ, _+_, _*_, _≤_}
 use native.Mathlib.Omega.{arith}
 use lib.ListN.{length, take}
 use Rattle.sums.proofs.Sums.{All, all-drop}
+use Rattle.numbers.specs.Numbers.{Byte}
 use Rattle.points.specs.declared.Point.{Point}
 use Rattle.housefile.specs.declared.Record.the-variants.{Vx, En}
 use Rattle.housefile.specs.Records.{encoded}
-use Rattle.housefile.specs.RoundTrip.{Byte}
 use Rattle.housefile.proofs.Records.{Storable, Present, size-within, decoded-own, length-encoded, decoded-encoded, encoded-decoded, decoded-storable}
 use Rattle.housefile.proofs.Following.{reach, written-again, record-alone, behind-alone, length-put, put-decoded, put-behind}
 use Rattle.housefile.proofs.Grammar.{Three, facet-record, Facets-follow, end, facet, Follows, facets, vertex}

@@ -6,9 +6,9 @@ use native.Mathlib.Omega.{arith}
 use lib.ListN.{length, take, drop, length-append, length-drop}
 use lib.Seq.{take-add, drop-at, length-take-le}
 use Rattle.sums.proofs.Sums.{All}
+use Rattle.numbers.specs.Numbers.{Byte}
 use Rattle.housefile.specs.declared.Record.{Record}
 use Rattle.housefile.specs.Records.{size, decoded, encoded}
-use Rattle.housefile.specs.RoundTrip.{Byte}
 use Rattle.housefile.proofs.Records.{Storable, Known, Present, size-within, decoded-own, length-encoded, behind-encoded, decoded-encoded, encoded-decoded}
 
 -- ---- a record that was read, and u bytes behind it

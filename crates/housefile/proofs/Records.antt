@@ -12,14 +12,13 @@ use lib.Ieee.{Float, isNan}
 use borrow.Author.Tests.{leb-true, eqb-true, le-leb, lt-leb, eq-eqb, ne-eqb}
 use Rattle.sums.proofs.Sums.{All, all-++, all-flatMap}
 use Rattle.sums.proofs.Tests.{and-true}
+use Rattle.numbers.specs.Numbers.{Byte, F64, number, number-at, float-at, bytes, float-bytes}
+use Rattle.numbers.proofs.Numbers.{length-bytes, all-bytes, all-float-bytes, number-front, float-front, number-at-lt, bytes-at, length-float-bytes, number-there, float-there, float-fits, float-bytes-at}
 use Rattle.points.specs.declared.Point.{Point}
 use Rattle.points.specs.Points.{coordinates}
 use Rattle.housefile.specs.declared.Record.{Record}
 use Rattle.housefile.specs.declared.Record.the-variants.{Vx, Fc, En, Fault}
-use Rattle.housefile.specs.Numbers.{number, number-at, float-at, bytes, float-bytes}
 use Rattle.housefile.specs.Records.{mark-VX, mark-FC, mark-EN, size, decoded, encoded}
-use Rattle.housefile.specs.RoundTrip.{Byte, F64}
-use Rattle.housefile.proofs.Numbers.{length-bytes, all-bytes, all-float-bytes, number-front, float-front, number-at-lt, bytes-at, length-float-bytes, number-there, float-there, float-fits, float-bytes-at}
 
 -- ---- "`VX`", "`FC`", "`EN`": the marks are these letters
 pub letters : (mark-VX ≡ code "V" ∷ code "X" ∷ []) × (mark-FC ≡ code "F" ∷ code "C" ∷ []) × (mark-EN ≡ code "E" ∷ code "N" ∷ [])

@@ -10,6 +10,7 @@ use lib.Seq.{take-at, length-take-le}
 use lib.Ieee.{Float, isNan}
 use Rattle.sums.specs.Lists.{onto}
 use Rattle.sums.proofs.Sums.{All, all-of, all-flatMap, all-of-flatMap}
+use Rattle.numbers.specs.Numbers.{Byte, F64}
 use Rattle.points.specs.Points.{coordinates}
 use Rattle.solids.specs.Refusals.{no-refusal}
 use Rattle.solids.specs.declared.Verdict.the-variants.{Accepted}
@@ -18,7 +19,7 @@ use Rattle.solids.specs.Admission.{admission}
 use Rattle.solids.proofs.Admitted.{passed}
 use Rattle.housefile.specs.Reader.{Reading, laid, layout, reading, by-layout, read}
 use Rattle.housefile.specs.Writer.{Writing, file, write}
-use Rattle.housefile.specs.RoundTrip.{Byte, F64, solid-read, RoundTrip}
+use Rattle.housefile.specs.RoundTrip.{solid-read, RoundTrip}
 use Rattle.housefile.proofs.Grammar.{Follows, follows-layout, layout-follows}
 use Rattle.housefile.proofs.Files.{follows-within, follows-alone, follows-bytes, file-written, follows-storable}
 use Rattle.housefile.proofs.Shown.{Shows, shown, shown-whole, shown-file, storable-vertices, storable-facets}

@@ -9,6 +9,7 @@ use Rattle.sums.specs.Lists.{upTo}
 use Rattle.sums.proofs.Sums.{All, all-++, all-flatMap, all-of-flatMap}
 use Rattle.sums.proofs.UpTo.{all-upTo}
 use Rattle.sums.proofs.Threes.{in-threes, third-threes, rest-threes, flat-threes}
+use Rattle.numbers.specs.Numbers.{Byte, F64}
 use Rattle.points.specs.declared.Point.{Point}
 use Rattle.points.specs.declared.Axis.the-variants.{X, Y, Z}
 use Rattle.points.specs.Points.{coordinate, coordinates, zero-number as O}
@@ -21,7 +22,6 @@ use Rattle.housefile.specs.declared.Record.{Record}
 use Rattle.housefile.specs.declared.Record.the-variants.{Vx, Fc, En}
 use Rattle.housefile.specs.Records.{encoded}
 use Rattle.housefile.specs.Writer.{file}
-use Rattle.housefile.specs.RoundTrip.{Byte, F64}
 use Rattle.housefile.proofs.Records.{Storable, all-encoded}
 use Rattle.housefile.proofs.Grammar.{Three, corners-of, facet-record}
 use Rattle.housefile.proofs.Files.{file-of, length-file-of}

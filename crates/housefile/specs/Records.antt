@@ -4,10 +4,10 @@ use mathlib.Core.Bool.{true, false, _&&_}
 use mathlib.Core.List.{List, [], _∷_, _++_, flatMap}
 use lib.ListN.{length}
 use lib.Dec.{leb, eqb}
+use Rattle.numbers.specs.Numbers.{number, number-at, float-at, bytes, float-bytes}
 use Rattle.points.specs.Points.{coordinates}
 use Rattle.housefile.specs.declared.Record.{Record}
 use Rattle.housefile.specs.declared.Record.the-variants.{Vx, Fc, En, Fault}
-use Rattle.housefile.specs.Numbers.{number, number-at, float-at, bytes, float-bytes}
 
 -- "a two-byte mark": `VX`, `FC`, `EN`
 abbrev pub mark-VX : List ℕ

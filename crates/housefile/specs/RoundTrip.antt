@@ -1,26 +1,18 @@
 -- The round trip of the house file, as a statement: what is written is read as it was, bit for bit; what is read and accepted is written again
 -- byte by byte; and bytes behind a file change nothing. Proved in proofs/RoundTrip.antt.
-use Prim.Native.Nat.{ℕ, _*_, _<_, _≤_}
+use Prim.Native.Nat.{ℕ, _*_, _≤_}
 use mathlib.Core.Path.{_≡_}
 use mathlib.Core.List.{List, _++_, List·Memᴰ}
 use lib.ListN.{length, take}
-use lib.Dec.{T}
-use lib.Ieee.{Float, binary64, fits}
+use lib.Ieee.{Float}
 use Rattle.sums.specs.Lists.{onto}
+use Rattle.numbers.specs.Numbers.{Byte, F64}
 use Rattle.solids.specs.declared.Verdict.the-variants.{Accepted}
 use Rattle.solids.specs.Refusals.{no-refusal}
 use Rattle.solids.specs.Solids.{Solid, vertices, facets}
 use Rattle.solids.specs.Admission.{admission}
 use Rattle.housefile.specs.Reader.{Reading, laid, layout, read}
 use Rattle.housefile.specs.Writer.{file, write}
-
--- what a byte holds
-abbrev pub Byte : ℕ → Type 0
-Byte b = b < 256
-
--- what an f64 holds: both zeros, the subnormals, the infinities and the NaN among it
-abbrev pub F64 : Float → Type 0
-F64 x = T (fits binary64 x)
 
 -- the solid that stands in the fronts of the lent lists after a reading
 abbrev pub solid-read : Reading → Solid

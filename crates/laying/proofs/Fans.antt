@@ -2,23 +2,24 @@
 use mathlib.Core.Path.{_≡_, refl, sym, ap, _∙_}
 use mathlib.Core.Bool.{Bool, not}
 use mathlib.Core.List.{List, [], _∷_, _++_, flatMap, map-append}
-use Prim.Native.Nat.{ℕ, suc, _+_, _*_, _<_, _≤_}
-use native.Mathlib.Nat.{add-zero, zero-add}
+use Prim.Native.Nat.{ℕ, _+_, _*_, _<_, _≤_}
+use native.Mathlib.Nat.{add-zero}
 use native.Mathlib.Numerals.{add-one}
 use native.Mathlib.Omega.{arith}
 use borrow.Author.Tests.{eq-eqb, ne-eqb}
 use lib.ListN.{length, getD, take, set, length-append, length-map}
-use lib.Seq.{sets, sets-eq, length-sets, getD-take}
+use lib.Seq.{sets, length-sets, getD-take}
 use Rattle.sums.specs.Lists.{upTo, keep, least, onto}
 use Rattle.sums.proofs.Sums.{flat-append}
 use Rattle.sums.proofs.UpTo.{length-upTo}
 use Rattle.sums.proofs.Threes.{length-threes}
+use Rattle.lists.proofs.Kept.{keep-append}
+use Rattle.lists.proofs.Stores.{sets-append, sets-onto}
 use Rattle.solids.specs.Solids.{Half}
 use Rattle.results.specs.Triangles.{Triangle, smallest, at-end, fan, corners-of}
 use Rattle.joining.specs.Flat.{flat, firsts}
 use Rattle.joining.proofs.Flat.{firsts-next, numbers-firsts}
 use Rattle.laying.specs.Laid.{fan-at, origins-of, Laid}
-use Rattle.laying.proofs.Lists.{keep-append, sets-append}
 
 -- ---- the smallest number on a boundary
 smallest-number : (hs : List Half) → 0 < length hs → smallest hs ≡ least (getD (flat hs) 0 0) (flat hs)
@@ -80,23 +81,20 @@ pub laid-none : (cs os : List ℕ) (k : ℕ) → Laid [] cs os k cs os k
 unfolding flatMap
 laid-none cs os k = record { corners = refl; origins = refl; count = sym (add-zero k) }
 
-pub laid-one : (o a p q : ℕ) (cs os : List ℕ) (k : ℕ) {c₁ c₂ c₃ o₁ : List ℕ} → c₁ ≡ set cs (3 * k) a → c₂ ≡ set c₁ (3 * k + 1) p → c₃ ≡ set c₂ (3 * k + 2) q → o₁ ≡ set os k o
-    → Laid (record { a = a; p = p; q = q; origin = o } ∷ []) cs os k c₃ o₁ (k + 1)
+pub laid-one : (o a p q : ℕ) (cs os : List ℕ) (k : ℕ) {cs′ os′ : List ℕ} → cs′ ≡ sets cs (3 * k) (a ∷ p ∷ q ∷ []) → os′ ≡ set os k o
+    → Laid (record { a = a; p = p; q = q; origin = o } ∷ []) cs os k cs′ os′ (k + 1)
 unfolding flatMap
-laid-one o a p q cs os k e₁ e₂ e₃ e₄ =
-    let x : 3 * k + 1 ≡ suc (3 * k) = omega arith in
-    let y : 3 * k + 2 ≡ suc (suc (3 * k)) = omega arith in
-    record { corners = e₃ ∙ rw (e₂, e₁, x, y); origins = e₄; count = refl }
+laid-one o a p q cs os k c d = record { corners = c; origins = d; count = refl }
 
 pub laid-more : {ts us : List Triangle} {cs₀ os₀ cs os cs′ os′ : List ℕ} {k₀ k k′ : ℕ} → Laid ts cs₀ os₀ k₀ cs os k → Laid us cs os k cs′ os′ k′ → Laid (ts ++ us) cs₀ os₀ k₀ cs′ os′ k′
 laid-more {ts} {us} {cs₀} {os₀} {cs} {os} {cs′} {os′} {k₀} {k} {k′} a b =
     let e : 3 * k ≡ 3 * k₀ + length (flatMap corners-of ts) = omega (arith, three-each ts, a .count) in
     let d : k ≡ k₀ + length (origins-of ts) = omega (arith, one-each ts, a .count) in
     record {
-      corners = b .corners ∙ rw (e, a .corners, flat-append corners-of ts us) (sym (sets-append cs₀ (3 * k₀) (flatMap corners-of ts) (flatMap corners-of us)));
+      corners = b .corners ∙ rw (e, a .corners, flat-append corners-of ts us) (sets-append cs₀ (3 * k₀) (flatMap corners-of ts) (flatMap corners-of us));
       origins =
           b .origins ∙ rw (map-append (λ (t : Triangle). t .origin) ts us, a .origins)
-          (ap (λ m. sets (sets os₀ k₀ (origins-of ts)) m (origins-of us)) d ∙ sym (sets-append os₀ k₀ (origins-of ts) (origins-of us)));
+          (ap (λ m. sets (sets os₀ k₀ (origins-of ts)) m (origins-of us)) d ∙ sets-append os₀ k₀ (origins-of ts) (origins-of us));
       count = rw length-append (omega (arith, a .count, b .count));
     }
 
@@ -109,7 +107,5 @@ module _ {ts : List Triangle} {cs₀ os₀ cs os : List ℕ} {k : ℕ} where
   laid-onto a h g =
       let x = three-each ts in
       let y = one-each ts in
-      let n = a .count in (
-        a .corners ∙ sets-eq (flatMap corners-of ts) cs₀ 0 (omega arith) ∙ rw (zero-add (length (flatMap corners-of ts))),
-        a .origins ∙ sets-eq (origins-of ts) os₀ 0 (omega arith) ∙ rw (zero-add (length (origins-of ts))),
-      )
+      let n = a .count in
+      (a .corners ∙ sets-onto cs₀ (flatMap corners-of ts) (omega arith), a .origins ∙ sets-onto os₀ (origins-of ts) (omega arith))

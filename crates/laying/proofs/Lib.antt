@@ -1,4 +1,3 @@
-pub mod Lists
 pub mod Ints
 pub mod Ranks
 pub mod Fans

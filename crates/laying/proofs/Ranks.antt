@@ -10,8 +10,8 @@ use lib.ListN.{length, getD, set, take, length-append}
 use lib.Seq.{take-suc, take-suc-set, take-all}
 use Rattle.sums.specs.Lists.{upTo, keep, nonzero}
 use Rattle.sums.proofs.UpTo.{map-upTo-suc}
+use Rattle.lists.proofs.Kept.{keep-append}
 use Rattle.laying.specs.Rank.{rank, ranks}
-use Rattle.laying.proofs.Lists.{keep-append}
 
 pub rank-next : (inc : List ℤ) (i : ℕ) → i < length inc → rank inc (suc i) ≡ rank inc i + length (keep nonzero (getD inc i (pos 0) ∷ []))
 unfolding rank

@@ -3,20 +3,11 @@
 ghost use mathlib.Core.Path.{_≡_};
 ghost use mathlib.Core.List.{[], _∷_};
 ghost use Prim.Native.Nat.{_+_, _*_, _<_, _≤_, min};
-ghost use lib.ListN.{length, getD, take, set};
+ghost use lib.ListN.{length, getD, take};
 ghost use Rattle.sums.specs.Lists.{least};
 ghost use Rattle.results.specs.Triangles.{fan};
 ghost use Rattle.joining.specs.Flat.{firsts};
 ghost use Rattle.laying.specs.Laid.{fan-at, Laid};
-
-// Stores where there is room.
-fn store(list: &mut [u32], at: usize, v: u32)
-    ensures { λ _. ⌜ now (list .exit) ≡ set (now (list .entry)) at v ⌝ }
-{
-    if at < list.len() {
-        list[at] = v;
-    }
-}
 
 fn put_triangle(
     a: u32,
@@ -37,10 +28,8 @@ fn put_triangle(
     if a == q {
         return k;
     }
-    store(corners, 3 * k, a);
-    store(corners, 3 * k + 1, p);
-    store(corners, 3 * k + 2, q);
-    store(origins, k, origin);
+    lists::put_three(a, p, q, corners, 3 * k);
+    lists::store(origins, k, origin);
     k + 1
 }
 

@@ -1,9 +1,10 @@
 -- Document 01, "Program `solid`": what it prints, as a function of the bytes on its standard input.
-use Prim.Native.Nat.{ℕ, zero, suc, _+_, _*_, _/_, _%_}
+use Prim.Native.Nat.{ℕ, suc, _+_, _*_}
 use mathlib.Core.Bool.{true, false, cond}
 use mathlib.Core.List.{List, [], _∷_, _++_}
 use lib.ListN.{length, drop, replicate}
 use lib.Dec.{ltb, eqb}
+use Rattle.numbers.specs.Digits.{digits}
 use Rattle.points.specs.Points.{zero-number}
 use Rattle.solids.specs.Refusals.{answer-of}
 use Rattle.results.specs.declared.Operation.{Operation}
@@ -49,14 +50,6 @@ by-letter (Known op) bs =
 unfoldable pub program : List ℕ → Outcome
 program [] = refusal (answer-of 9) room
 program (c ∷ bs) = by-letter (letter c) bs
-
--- a number in decimal digits, no more than k of them
-unfoldable pub decimal : ℕ → ℕ → List ℕ
-decimal zero n = []
-decimal (suc k) n = elim (ltb n 10) [ true ↦ (0x30 + n) ∷ [] | false ↦ decimal k (n / 10) ++ ((0x30 + n % 10) ∷ []) ]
-
-abbrev pub digits : ℕ → List ℕ
-digits n = decimal (suc n) n
 
 -- "It prints one line: answer, vertices, triangles, separated by one blank."
 unfoldable pub line : Outcome → List ℕ

@@ -8,17 +8,16 @@ use borrow.Author.Tests.{ltb-false}
 use lib.Dec.{ltb}
 use lib.Ieee.{Float}
 use lib.IntN.{ℤ}
-use lib.ListN.{length, length-map}
+use lib.ListN.{length}
 use Rattle.sums.specs.Lists.{keep, nonzero, onto}
 use Rattle.sums.proofs.Tests.{or-false}
-use Rattle.sums.proofs.Threes.{length-threes}
 use Rattle.solids.specs.Refusals.{answer-of, no-refusal}
 use Rattle.solids.specs.Solids.{Solid}
 use Rattle.solids.specs.declared.Verdict.the-variants.{Accepted}
 use Rattle.solids.specs.Admission.{admission}
 use Rattle.solids.proofs.Admitted.{passed}
 use Rattle.results.specs.declared.Operation.{Operation}
-use Rattle.results.specs.Triangles.{Triangle, listed, result}
+use Rattle.results.specs.Triangles.{Triangle, result}
 use Rattle.results.specs.Operation.{Lent, lists, too-short, called, refusal, operate}
 use Rattle.results.proofs.Refusals.{last-8, else-done}
 use Rattle.edges.proofs.Edges.{keep-le}
@@ -27,7 +26,7 @@ use Rattle.laying.specs.Laid.{Laid}
 use Rattle.building.specs.declared.Sizes.{Sizes}
 use Rattle.building.specs.Table as T
 use Rattle.tables.specs.Filled.{sizes, inclusions, numbers, filled, halves}
-use Rattle.tables.proofs.Good.{long-inclusions, good, read-triangles}
+use Rattle.tables.proofs.Good.{long-inclusions, good}
 use Rattle.tables.proofs.Numbers.{ranks-numbers}
 use Rattle.tables.proofs.Use.{numbered, counted, made}
 use Rattle.slots.specs.Kept.{points-kept}

@@ -1,4 +1,3 @@
 pub mod Fronts
 pub mod Letters
-pub mod Digits
 pub mod Texts

@@ -2,28 +2,27 @@
 use mathlib.Core.Path.{_≡_, refl, sym, ap, ap₂, _∙_}
 use mathlib.Core.List.{List, [], _∷_, _++_, append-assoc}
 use Prim.Native.Nat.{ℕ, _+_, _≤_, _<_}
-use native.Mathlib.Numerals.{add-one}
 use native.Mathlib.Omega.{arith}
 use lib.ListN.{length, set, replicate, length-append}
-use lib.Seq.{drop-cons, append-snoc, set-append-seam}
-use Rattle.sums.specs.Lists.{onto}
+use lib.Seq.{sets}
+use Rattle.lists.proofs.Stores.{onto-append}
 use Rattle.programs.specs.declared.Text.{Text}
 use Rattle.programs.specs.Answers.{text, Printed}
 use Rattle.programs.specs.Words.{Then}
 
--- ---- a byte, and more
+-- ---- what is stored behind it
 
-set-behind : (l old : List ℕ) (b : ℕ) → length l < length old → set (onto l old) (length l) b ≡ onto (l ++ (b ∷ [])) old
-set-behind l old b h = rw (drop-cons old (length l) 0, set-append-seam, length-append, add-one, append-snoc)
-
-pub one-more : (t : Text) (b : ℕ) → t .used < 64 → Then t (b ∷ []) (record { bytes = set (t .bytes) (t .used) b; used = t .used + 1 })
-one-more t b h =
+pub and-stored : (t : Text) (l : List ℕ) → t .used + length l ≤ 64 → Then t l (record { bytes = sets (t .bytes) (t .used) l; used = t .used + length l })
+and-stored t l h =
     record {
       longer = refl;
-      says = λ l e.
-          let n : t .used ≡ length l = ap (λ x. x .used) e in
-          rw e (ap₂ (λ x y. record { bytes = x; used = y }) (set-behind l (replicate 64 0) b (omega arith)) (sym (length-append l (b ∷ []))));
+      says = λ before e.
+          let n : t .used ≡ length before = ap (λ x. x .used) e in
+          rw e (ap₂ (λ x y. record { bytes = x; used = y }) (onto-append (replicate 64 0) before l (omega arith)) (sym (length-append before l)));
     }
+
+pub one-more : (t : Text) (b : ℕ) → t .used < 64 → Then t (b ∷ []) (record { bytes = set (t .bytes) (t .used) b; used = t .used + 1 })
+one-more t b h = and-stored t (b ∷ []) (omega arith)
 
 pub and-then : {t r q : Text} {k l : List ℕ} → Then t k r → Then r l q → Then t (k ++ l) q
 and-then {t} {r} {q} {k} {l} d e =

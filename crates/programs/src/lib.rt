@@ -1,6 +1,6 @@
 // What the program `solid` prints, as a function of its input: what the two files come to, and the line that says so.
 mod inputs;
-mod numbers;
+mod printing;
 
 use results::Made;
 use solids::Answer;
@@ -26,5 +26,5 @@ pub fn outcome(input: &[u8]) -> Made
 pub fn printed(input: &[u8]) -> Text
     ensures { λ r. ⌜ An.Printed (now (input .entry)) r ⌝ }
 {
-    numbers::line_of(outcome(input))
+    printing::line_of(outcome(input))
 }

@@ -1,8 +1,8 @@
 -- DEMAND 3, whole. The parts on the result of an operation are proved over the definitions, in the crates that have them; here they are carried to the
 -- result's lists and collected.
-use mathlib.Core.Path.{_≡_, refl, sym, ap, subst, _∙_}
+use mathlib.Core.Path.{_≡_, refl, sym, subst, _∙_}
 use mathlib.Core.List.{List, _∷_, [], flatMap}
-use Prim.Native.Nat.{ℕ, _≤_, _<_, _/_, _%_}
+use Prim.Native.Nat.{ℕ, _≤_, _<_, _%_}
 use lib.ListN.{length}
 use lib.Ieee.{Float, isNan}
 use mathlib.Core.Bool.{false}
@@ -23,9 +23,9 @@ use Rattle.results.specs.Triangles.{Triangle, triangles, listed, result}
 use Rattle.results.proofs.Refusals.{by-code, else-done}
 use Rattle.results.proofs.Adding.{Shut, inclusion-adds}
 use Rattle.results.proofs.Closed.{triangles-closed}
-use Rattle.results.proofs.Corners.{vertex-count, triangles-proper}
+use Rattle.results.proofs.Corners.{triangles-proper}
 use Rattle.results.proofs.Limit.{result-near}
-use Rattle.robust.specs.Robust.{solid-of, ThreeCorners, RobustResult, Robust}
+use Rattle.robust.specs.Robust.{solid-of, RobustResult, Robust}
 use Rattle.robust.proofs.Lower.{lower-points}
 use Rattle.robust.proofs.AddUp.{ends-add-up}
 

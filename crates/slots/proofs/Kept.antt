@@ -3,7 +3,6 @@ use mathlib.Core.Path.{_≡_, refl, sym, ap, _∙_}
 use mathlib.Core.Bool.{Bool, true, false, not, cond}
 use mathlib.Core.List.{List, [], _∷_, _++_, flatMap, map-id, append-nil}
 use Prim.Native.Nat.{ℕ, suc, _+_, _*_, _<_, _≤_}
-use native.Mathlib.Nat.{zero-add}
 use native.Mathlib.Numerals.{add-one}
 use native.Mathlib.Omega.{arith}
 use borrow.Author.Tests.{eq-eqb, ne-eqb}
@@ -12,13 +11,15 @@ use mir.Val.{SFits, ofZ}
 use lib.Ieee.{Float}
 use lib.IntN.{ℤ, pos}
 use lib.ListN.{length, getD, take, drop, length-append, length-map, take-append-drop}
-use lib.Seq.{sets, sets-eq, length-sets, take-length}
+use lib.Seq.{sets, length-sets, take-length}
 use Rattle.sums.specs.Lists.{upTo, keep, nonzero, onto}
 use Rattle.sums.proofs.Sums.{flat-append, flat-map}
 use Rattle.sums.proofs.Threes.{length-threes}
 use Rattle.sums.proofs.UpTo.{flat-upTo}
 use Rattle.points.specs.declared.Point.{Point}
 use Rattle.points.specs.Points.{coordinates}
+use Rattle.lists.proofs.Kept.{keep-append}
+use Rattle.lists.proofs.Stores.{sets-append, sets-onto}
 use Rattle.solids.specs.Solids.{Solid}
 use Rattle.results.specs.declared.Operation.{Operation}
 use Rattle.results.specs.Inclusion.{Key, inclusion, place}
@@ -27,7 +28,6 @@ use Rattle.results.specs.Triangles.{listed, result}
 use Rattle.building.specs.declared.Sizes.{Sizes}
 use Rattle.laying.specs.Rank.{rank}
 use Rattle.laying.proofs.Ints.{nonzero-test}
-use Rattle.laying.proofs.Lists.{keep-append, sets-append}
 use Rattle.laying.proofs.Ranks.{rank-next}
 use Rattle.tables.specs.Filled.{sizes, inclusions}
 use Rattle.tables.proofs.Keys.{no-key, length-keys}
@@ -130,7 +130,7 @@ module _ {a b : Solid} {z : Sizes} where
             few = omega (arith, g .few);
             next = rw (slots-yes inc k y, long) (omega (arith, g .next));
             ranked = rw (slots-yes inc k y, long) (omega (arith, g .ranked, rank-yes y));
-            stored = rw (slots-yes inc k y, more) (e ∙ rw (g .stored, place) (sym (sets-append old 0 front (slot-point a b z k))));
+            stored = rw (slots-yes inc k y, more) (e ∙ rw (g .stored, place) (sets-append old 0 front (slot-point a b z k)));
           })
 
       pub put-no : nonzero (getD inc k (pos 0)) ≡ false → Put a b z inc old new at (k + 1)
@@ -146,7 +146,7 @@ module _ {a b : Solid} {z : Sizes} where
     unfolding points-kept
     put-all e r =
         let vs = flatMap (slot-point a b z) (kept-slots inc k) in
-        rw (← e) (g .stored ∙ sets-eq vs old 0 (omega (arith, r, length-points a b z (kept-slots inc k), g .ranked, rank-within inc k)) ∙ rw (zero-add (length vs)))
+        rw (← e) (g .stored ∙ sets-onto old vs (omega (arith, r, length-points a b z (kept-slots inc k), g .ranked, rank-within inc k)))
 
 -- ---- two solids
 flat-keep : {A B : Type 0} (f : A → List B) (p : A → Bool) (l : List A) → flatMap f (keep p l) ≡ flatMap (λ x. cond (p x) (f x) []) l

@@ -7,7 +7,6 @@ ghost use Prim.Native.Nat.{_+_, _*_, _/_, _<_, _≤_};
 ghost use lib.ListN.{length};
 ghost use lib.Seq.{sets};
 ghost use Rattle.sums.specs.Lists.{keep, nonzero, onto};
-ghost use Rattle.points.specs.Points.{coordinates};
 ghost use Rattle.building.specs.Table as Ta;
 ghost use Rattle.solids.specs.Solids as So;
 ghost use Rattle.solids.specs.Table as Sl;
@@ -73,15 +72,6 @@ pub fn place_at(
     }
 }
 
-fn put_point(v: Point, list: &mut [f64], at: usize)
-    requires { ⌜ at + 3 ≤ length (now list) ⌝ }
-    ensures { λ r. ⌜ now (list .exit) ≡ sets (now (list .entry)) at (coordinates v) ⌝ }
-{
-    list[at] = v.x;
-    list[at + 1] = v.y;
-    list[at + 2] = v.z;
-}
-
 // Slot k's point, behind the first `at` numbers of the list.
 fn put_slot(
     k: usize,
@@ -102,7 +92,7 @@ fn put_slot(
 {
     let slot = crate::slot_at(z, k);
     let v = place_at(slot, ap, ac, ae, bp, bc, be);
-    put_point(v, list, at);
+    lists::put_point(v, list, at);
 }
 
 // Nothing is worked out for a slot that is left out.

@@ -5,7 +5,6 @@ use native.Mathlib.Omega.{arith}
 use native.Mathlib.Decide.{decLt}
 use lib.IntN.{ℤ, pos, negsuc, negℤ, one, _+ℤ_, _*ℤ_, *ℤ-comm, *ℤ-one, zero-*ℤ}
 use lib.ListN.{length, getD, length-map, List·getD-eq-default}
-use Rattle.sums.specs.Lists.{upTo, sumOf}
 use Rattle.sums.proofs.Integers.{Bnd, bnd-add, bnd-neg, neg-mul}
 use Rattle.crossings.proofs.Sizes.{two-ef, two-fe}
 use Rattle.solids.specs.Solids.{Solid, Half, vertices, facets, vertex, edge, facet, edges}

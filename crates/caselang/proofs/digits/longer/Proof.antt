@@ -1,40 +1,32 @@
+-- `longer` meets its contract: the number with one digit more fits.
 use Prim.Native.Nat.{ℕ, _+_, _*_, _-_, _/_, _<_, _≤_}
 use native.Mathlib.Nat.{le-div-iff-mul-le}
 use native.Mathlib.Omega.{arith}
 use borrow.Author.Needs.{needs}
 use Rattle.caselang.proofs.digits.longer.Statement.{statement}
 use Rattle.caselang.proofs.digits.longer.Tie as tie
-use Rattle.caselang.proofs.digits.longer.Reads as reads
-use Rattle.caselang.proofs.digits.longer.Lts as lts
 
 held : (m v b n : ℕ) → 0 < b → n ≤ m → v ≤ (m - n) / b → v * b + n ≤ m
 held m v b n p q h = omega (arith, le-div-iff-mul-le p .0 h)
 
--- src
 returns : tie.Need-returns
 returns c = search needs
 
--- src/digits.rt:36:9
 sub-if2 : tie.Need-sub-if2
 sub-if2 c = search needs
 
--- src/digits.rt:36:8
 div-if2 : tie.Need-div-if2
 div-if2 c = search needs
 
--- src/digits.rt:37:9
 returns-2 : tie.Need-returns-2
 returns-2 c = search needs
 
--- src/digits.rt:44:16
 mul-t5 : tie.Need-mul-t5
 mul-t5 c = let s = c .before .before in let h = held _ _ _ _ (s .pre .0) (search needs) (c .if2 .left) in omega arith
 
--- src/digits.rt:44:16
 add-t6 : tie.Need-add-t6
 add-t6 c = let s = c .before .before in let h = held _ _ _ _ (s .pre .0) (search needs) (c .if2 .left) in omega arith
 
--- src/digits.rt:27:1
 returns-3 : tie.Need-returns-3
 returns-3 c = search needs
 

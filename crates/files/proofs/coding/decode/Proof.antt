@@ -2,8 +2,8 @@
 use mathlib.Core.Path.{_≡_, refl, sym, _∙_}
 use native.Mathlib.Omega.{arith}
 use borrow.Author.Needs.{needs}
+use Rattle.numbers.specs.Numbers.{number, number-at, float-at}
 use Rattle.housefile.specs.declared.Record.the-variants.{Vx, Fc, En}
-use Rattle.housefile.specs.Numbers.{number, number-at, float-at}
 use Rattle.housefile.specs.Records.{mark-VX, mark-FC, mark-EN}
 use Rattle.housefile.proofs.Records.{unmarked, too-few, other-mark, marked-not, begins-decoded}
 use Rattle.files.proofs.coding.decode.Statement.{statement}

@@ -1,6 +1,6 @@
 -- `put_end` meets its contract: the mark, as the two bytes of its number.
 use borrow.Author.Needs.{needs}
-use Rattle.housefile.specs.Numbers.{bytes}
+use Rattle.numbers.specs.Numbers.{bytes}
 use Rattle.housefile.specs.Records.{encoded}
 use Rattle.files.proofs.coding.put_end.Statement.{statement}
 use Rattle.files.proofs.coding.put_end.Tie as tie

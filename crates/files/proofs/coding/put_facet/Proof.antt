@@ -3,10 +3,10 @@ use mathlib.Core.Path.{refl}
 use Prim.Native.Nat.{_+_}
 use native.Mathlib.Omega.{arith}
 use borrow.Author.Needs.{needs}
-use Rattle.housefile.specs.Numbers.{bytes}
+use Rattle.numbers.specs.Numbers.{bytes}
+use Rattle.numbers.proofs.Numbers.{length-bytes}
+use Rattle.lists.proofs.Stores.{sets-four}
 use Rattle.housefile.specs.Records.{mark-FC, encoded}
-use Rattle.housefile.proofs.Numbers.{length-bytes}
-use Rattle.files.proofs.Stores.{sets-four}
 use Rattle.files.proofs.coding.put_facet.Statement.{statement}
 use Rattle.files.proofs.coding.put_facet.Tie as tie
 

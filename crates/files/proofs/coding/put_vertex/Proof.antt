@@ -5,12 +5,12 @@ use native.Mathlib.Omega.{arith}
 use lib.Ieee.{isNan}
 use borrow.Author.Needs.{needs}
 use Rattle.sums.proofs.Tests.{any-false}
+use Rattle.numbers.specs.Numbers.{bytes, float-bytes}
+use Rattle.numbers.proofs.Numbers.{length-float-bytes}
 use Rattle.points.specs.Points.{coordinates}
-use Rattle.housefile.specs.Numbers.{bytes, float-bytes}
+use Rattle.lists.proofs.Stores.{sets-four}
 use Rattle.housefile.specs.Records.{mark-VX}
-use Rattle.housefile.proofs.Numbers.{length-float-bytes}
 use Rattle.housefile.proofs.Records.{vx-parts}
-use Rattle.files.proofs.Stores.{sets-four}
 use Rattle.files.proofs.coding.put_vertex.Statement.{statement}
 use Rattle.files.proofs.coding.put_vertex.Tie as tie
 

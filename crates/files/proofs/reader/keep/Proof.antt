@@ -1,6 +1,6 @@
 -- `keep` meets its contract: a vertex among the points, a facet among the corners, else nothing.
 use borrow.Author.Needs.{needs}
-use Rattle.files.proofs.Stores.{kept-nothing}
+use Rattle.files.proofs.Kept.{kept-nothing}
 use Rattle.files.proofs.reader.keep.Statement.{statement}
 use Rattle.files.proofs.reader.keep.Tie as tie
 

@@ -8,12 +8,12 @@ use lib.ListN.{length}
 use lib.Seq.{sets, length-sets}
 use borrow.Author.Needs.{needs}
 use Rattle.sums.specs.Lists.{upTo}
+use Rattle.lists.proofs.Stores.{run-next}
 use Rattle.solids.specs.Solids.{solid, corner}
 use Rattle.housefile.specs.declared.Record.the-variants.{Fc}
 use Rattle.housefile.specs.Records.{encoded}
 use Rattle.files.specs.Walking.{facet-part}
 use Rattle.housefile.proofs.Records.{length-encoded}
-use Rattle.files.proofs.Stores.{run-next}
 use Rattle.files.proofs.writer.put_facets.Statement.{statement}
 use Rattle.files.proofs.writer.put_facets.Tie as tie
 

@@ -9,12 +9,12 @@ use lib.Seq.{sets, length-sets}
 use lib.Ieee.{Float}
 use borrow.Author.Needs.{needs}
 use Rattle.sums.specs.Lists.{upTo}
+use Rattle.lists.proofs.Stores.{run-next}
 use Rattle.solids.specs.Solids.{solid, vertex}
 use Rattle.housefile.specs.declared.Record.the-variants.{Vx}
 use Rattle.housefile.specs.Records.{encoded}
 use Rattle.files.specs.Walking.{vertex-part}
 use Rattle.housefile.proofs.Records.{length-encoded}
-use Rattle.files.proofs.Stores.{run-next}
 use Rattle.files.proofs.Blanks.{vertex-present}
 use Rattle.files.proofs.writer.put_vertices.Statement.{statement}
 use Rattle.files.proofs.writer.put_vertices.Tie as tie

@@ -8,7 +8,7 @@ use borrow.Author.Needs.{needs}
 use lib.ListN.{length, getD, take}
 use lib.Seq.{take-suc}
 use Rattle.sums.specs.Lists.{least}
-use Rattle.laying.proofs.Lists.{least-snoc}
+use Rattle.lists.proofs.Kept.{least-snoc}
 use Rattle.laying.proofs.fan.smallest.Statement.{statement}
 use Rattle.laying.proofs.fan.smallest.Tie as tie
 
