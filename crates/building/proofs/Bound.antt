@@ -23,7 +23,7 @@ use Rattle.joining.proofs.Joined.{length-zip}
 use Rattle.building.specs.declared.Sizes.{Sizes}
 use Rattle.building.specs.declared.Line.{Line}
 use Rattle.building.specs.Table.{Table, end, edge-at, against, on-edge, on-facet, line-of, line-ends, turn, line-pieces, half, flip, a-end, b-end, pair-ends, pair, others, row, round, boundary, Good}
-use Rattle.building.proofs.Ints.{neg-size}
+use Rattle.sums.proofs.Widths.{neg-size}
 use Rattle.building.proofs.Slots.{edge-in, facet-in}
 
 -- ---- what the counts' sizes add up to

@@ -1,4 +1,3 @@
-pub mod Ints
 pub mod Gather
 pub mod Slots
 pub mod Bound

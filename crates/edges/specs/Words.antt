@@ -2,10 +2,11 @@
 use mathlib.Core.Path.{_≡_}
 use mathlib.Core.List.{List, [], _∷_, _++_, map, flatMap, List·Memᴰ}
 use Prim.Native.Nat.{ℕ, _*_, _≤_}
+use lib.Ieee.{Float}
 use lib.ListN.{length, getD, take}
 use Rattle.sums.specs.Lists.{upTo, keep, before}
-use Rattle.solids.specs.Solids.{Half, solid, same-half, half-edges, pairs, is-edge}
-use Rattle.solids.specs.Table.{place}
+use Rattle.solids.specs.Solids.{Solid, Half, solid, same-half, half-edges, pairs, is-edge, edges}
+use Rattle.solids.specs.Table.{place, Named}
 
 -- ---- the edges, listed row by row of the table
 
@@ -35,3 +36,18 @@ pub record Listed (es : List Half) (ends numbers : List ℕ) (k : ℕ) : Type 0 
 -- all edges among the first n vertices; for a solid of n vertices these are its edges
 unfoldable pub edges-of : List ℕ → ℕ → List Half
 edges-of corners n = keep (is-edge (half-edges (solid [] corners))) (pairs n)
+
+-- ---- for who reads the list
+
+-- the edge with a number
+abbrev pub edge-numbered : Solid → ℕ → Half
+edge-numbered s e = getD (edges s) e (0, 0)
+
+-- a solid's corners name its vertices, and its edges' ends stand in a list
+pub record Ready (points : List Float) (corners ends : List ℕ) : Type 0 where
+  pub named : Named points corners
+  pub few-points : length points ≤ 384
+  pub few : length corners ≤ 768
+  pub room : length ends ≡ 768
+  pub edges-few : length (edges (solid points corners)) ≤ 384
+  pub front : take (2 * length (edges (solid points corners))) ends ≡ two-each (edges (solid points corners))

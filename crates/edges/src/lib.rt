@@ -1,8 +1,9 @@
-// The edges of a solid in document 01's order, each with its number, from the table of half-edge counts.
+// The edges of a solid in document 01's order, each with its number, from the table of half-edge counts; and an edge read from the list.
+use crossings::Edge;
 ghost use mathlib.Core.Path.{_≡_};
 ghost use mathlib.Core.List.{[]};
 ghost use Prim.Native.Nat.{_+_, _*_, _<_, _≤_};
-ghost use lib.ListN.{set};
+ghost use lib.ListN.{length, set};
 ghost use Rattle.solids.specs.Solids as So;
 ghost use Rattle.solids.specs.Table as Ta;
 ghost use Rattle.edges.specs.Words as Wo;
@@ -100,4 +101,17 @@ pub fn list_edges(
         p += 1;
     }
     many
+}
+
+// Edge number e, from its two ends in the list.
+pub fn edge_at(points: &[f64], ends: &[u32; 768], corners: &[u32], e: usize) -> Edge
+    requires { ⌜ Wo.Ready (now points) (now corners) (now ends) × (e < length (So.edges (So.solid (now points) (now corners)))) ⌝ }
+    ensures { λ r. ⌜ r ≡ So.edge (So.solid (now (points .entry)) (now (corners .entry))) (Wo.edge-numbered (So.solid (now (points .entry)) (now (corners .entry))) e) ⌝ }
+{
+    let start = ends[2 * e] as usize;
+    let end = ends[2 * e + 1] as usize;
+    Edge {
+        start: checks::vertices::vertex(points, start),
+        end: checks::vertices::vertex(points, end),
+    }
 }

@@ -10,12 +10,11 @@ use Rattle.solids.specs.declared.Verdict.the-variants.{Accepted}
 use Rattle.solids.specs.Admission.{admission}
 use Rattle.solids.proofs.Admitted.{Passed, passed}
 use Rattle.solids.proofs.Closure.{named}
-use Rattle.edges.specs.Words.{Listed}
+use Rattle.edges.specs.Words.{Listed, Ready}
 use Rattle.building.specs.Table as T
 use Rattle.tables.specs.Filled.{sizes}
 use Rattle.solids.proofs.Room.{edges-room}
 use Rattle.tables.proofs.Good.{sized}
-use Rattle.slots.specs.Words.{Ready}
 
 -- ---- one solid
 pub few-corners : {s : Solid} → Passed s → length (s .corners) ≤ 768

@@ -19,7 +19,7 @@ ghost use Rattle.results.specs.Operation as Op;
 ghost use Rattle.laying.specs.Laid.{Laid};
 ghost use Rattle.building.specs.Table as Ta;
 ghost use Rattle.tables.specs.Filled as Fi;
-ghost use Rattle.slots.specs.Words as Wo;
+ghost use Rattle.edges.specs.Words as Ed;
 ghost use Rattle.slots.specs.Kept as Ke;
 
 // The table: each slot's inclusion and its number. Answers how many slots are kept.
@@ -37,7 +37,7 @@ fn tables(
     num: &mut [u32],
 ) -> usize
     requires { ⌜ (Ad.admission (So.solid (now ap) (now ac)) ≡ Accepted) × (Ad.admission (So.solid (now bp) (now bc)) ≡ Accepted) ⌝ }
-    requires { ⌜ Wo.Ready (now ap) (now ac) (now ae) × Wo.Ready (now bp) (now bc) (now be) ⌝ }
+    requires { ⌜ Ed.Ready (now ap) (now ac) (now ae) × Ed.Ready (now bp) (now bc) (now be) ⌝ }
     requires { ⌜ (z ≡ Fi.sizes (So.solid (now ap) (now ac)) (So.solid (now bp) (now bc))) × Ta.Sized z × (length (now inc) ≡ Ta.total z) × (length (now num) ≡ Ta.total z) ⌝ }
     requires { ⌜ now halves ≡ Fi.halves (So.solid (now ap) (now ac)) (So.solid (now bp) (now bc)) ⌝ }
     ensures inclusions { λ r. ⌜ now (inc .exit) ≡ Fi.inclusions op (So.solid (now (ap .entry)) (now (ac .entry))) (So.solid (now (bp .entry)) (now (bc .entry))) ⌝ }
@@ -102,7 +102,7 @@ fn lay(
     corners: &mut [u32],
     origins: &mut [u32],
 ) -> usize
-    requires { ⌜ Wo.Ready (now ap) (now ac) (now ae) × Wo.Ready (now bp) (now bc) (now be) ⌝ }
+    requires { ⌜ Ed.Ready (now ap) (now ac) (now ae) × Ed.Ready (now bp) (now bc) (now be) ⌝ }
     requires { ⌜ (z ≡ Fi.sizes (So.solid (now ap) (now ac)) (So.solid (now bp) (now bc))) × Ta.Sized z × (length (now inc) ≡ Ta.total z) ⌝ }
     requires { ⌜ 3 * length (keep nonzero (now inc)) ≤ length (now points) ⌝ }
     requires { ⌜ Ta.Good (Ta.table (now inc) (now num)) (now halves) z × (6150 ≤ length (now list)) ⌝ }
@@ -131,7 +131,7 @@ pub fn make(
     origins: &mut [u32],
 ) -> Made
     requires { ⌜ (Ad.admission (So.solid (now ap) (now ac)) ≡ Accepted) × (Ad.admission (So.solid (now bp) (now bc)) ≡ Accepted) ⌝ }
-    requires { ⌜ Wo.Ready (now ap) (now ac) (now ae) × Wo.Ready (now bp) (now bc) (now be) ⌝ }
+    requires { ⌜ Ed.Ready (now ap) (now ac) (now ae) × Ed.Ready (now bp) (now bc) (now be) ⌝ }
     requires { ⌜ (z ≡ Fi.sizes (So.solid (now ap) (now ac)) (So.solid (now bp) (now bc))) × (length (now inc) ≡ Ta.total z) × (length (now num) ≡ Ta.total z) ⌝ }
     requires { ⌜ now halves ≡ Fi.halves (So.solid (now ap) (now ac)) (So.solid (now bp) (now bc)) ⌝ }
     ensures { λ r. ⌜ Op.called r (Op.lists (now (points .exit)) (now (corners .exit)) (now (origins .exit))) ≡ Op.operate op (So.solid (now (ap .entry)) (now (ac .entry))) (So.solid (now (bp .entry)) (now (bc .entry))) (Op.lists (now (points .entry)) (now (corners .entry)) (now (origins .entry))) ⌝ }
@@ -183,7 +183,7 @@ pub fn make_in_fronts(
     origins: &mut [u32],
 ) -> Made
     requires { ⌜ (Ad.admission (So.solid (now ap) (now ac)) ≡ Accepted) × (Ad.admission (So.solid (now bp) (now bc)) ≡ Accepted) ⌝ }
-    requires { ⌜ Wo.Ready (now ap) (now ac) (now ae) × Wo.Ready (now bp) (now bc) (now be) ⌝ }
+    requires { ⌜ Ed.Ready (now ap) (now ac) (now ae) × Ed.Ready (now bp) (now bc) (now be) ⌝ }
     requires { ⌜ (z ≡ Fi.sizes (So.solid (now ap) (now ac)) (So.solid (now bp) (now bc))) × (Ta.total z ≤ length (now inc)) × (Ta.total z ≤ length (now num)) ⌝ }
     requires { ⌜ (take (9 * (z .fa + z .fb)) (now halves) ≡ Fi.halves (So.solid (now ap) (now ac)) (So.solid (now bp) (now bc))) × (4608 ≤ length (now halves)) ⌝ }
     ensures { λ r. ⌜ Op.called r (Op.lists (now (points .exit)) (now (corners .exit)) (now (origins .exit))) ≡ Op.operate op (So.solid (now (ap .entry)) (now (ac .entry))) (So.solid (now (bp .entry)) (now (bc .entry))) (Op.lists (now (points .entry)) (now (corners .entry)) (now (origins .entry))) ⌝ }

@@ -9,7 +9,7 @@ ghost use Rattle.solids.specs.Admission as Ad;
 ghost use Rattle.solids.specs.declared.Verdict.the-variants.{Accepted};
 ghost use Rattle.building.specs.Table as Ta;
 ghost use Rattle.tables.specs.Filled as Fi;
-ghost use Rattle.slots.specs.Words as Wo;
+ghost use Rattle.edges.specs.Words as Ed;
 
 // One solid made ready: its edges listed, and its half-edges put behind the first `at` numbers of the list of both. Answers how many edges it has.
 fn ready(
@@ -22,7 +22,7 @@ fn ready(
     requires { ⌜ Ad.admission (So.solid (now points) (now corners)) ≡ Accepted ⌝ }
     requires { ⌜ length (now ends) ≡ 768 ⌝ }
     requires { ⌜ at + 9 * So.facets (So.solid (now points) (now corners)) ≤ length (now halves) ⌝ }
-    ensures ready { λ r. ⌜ Wo.Ready (now (points .entry)) (now (corners .entry)) (now (ends .exit)) ⌝ }
+    ensures ready { λ r. ⌜ Ed.Ready (now (points .entry)) (now (corners .entry)) (now (ends .exit)) ⌝ }
     ensures halves { λ r. ⌜ now (halves .exit) ≡ sets (now (halves .entry)) at (Fi.half-list (So.solid (now (points .entry)) (now (corners .entry)))) ⌝ }
     ensures count { λ r. ⌜ r ≡ length (So.edges (So.solid (now (points .entry)) (now (corners .entry)))) ⌝ }
 {
@@ -68,8 +68,8 @@ pub fn both(
 ) -> Sizes
     requires { ⌜ (Ad.admission (So.solid (now ap) (now ac)) ≡ Accepted) × (Ad.admission (So.solid (now bp) (now bc)) ≡ Accepted) ⌝ }
     requires { ⌜ (length (now ae) ≡ 768) × (length (now be) ≡ 768) × (4608 ≤ length (now halves)) ⌝ }
-    ensures ready_a { λ r. ⌜ Wo.Ready (now (ap .entry)) (now (ac .entry)) (now (ae .exit)) ⌝ }
-    ensures ready_b { λ r. ⌜ Wo.Ready (now (bp .entry)) (now (bc .entry)) (now (be .exit)) ⌝ }
+    ensures ready_a { λ r. ⌜ Ed.Ready (now (ap .entry)) (now (ac .entry)) (now (ae .exit)) ⌝ }
+    ensures ready_b { λ r. ⌜ Ed.Ready (now (bp .entry)) (now (bc .entry)) (now (be .exit)) ⌝ }
     ensures sizes { λ r. ⌜ r ≡ Fi.sizes (So.solid (now (ap .entry)) (now (ac .entry))) (So.solid (now (bp .entry)) (now (bc .entry))) ⌝ }
     ensures front { λ r. ⌜ take (9 * (r .fa + r .fb)) (now (halves .exit)) ≡ Fi.halves (So.solid (now (ap .entry)) (now (ac .entry))) (So.solid (now (bp .entry)) (now (bc .entry))) ⌝ }
 {

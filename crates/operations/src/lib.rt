@@ -14,7 +14,7 @@ ghost use Rattle.solids.specs.declared.Verdict.the-variants.{Accepted};
 ghost use Rattle.results.specs.Operation as Op;
 ghost use Rattle.building.specs.Table as Ta;
 ghost use Rattle.tables.specs.Filled as Fi;
-ghost use Rattle.slots.specs.Words as Wo;
+ghost use Rattle.edges.specs.Words as Ed;
 
 // A table for small solids, and one that is long enough for any two admitted ones: what is not needed is not cleared.
 fn in_small(
@@ -32,7 +32,7 @@ fn in_small(
     origins: &mut [u32],
 ) -> Made
     requires { ⌜ (Ad.admission (So.solid (now ap) (now ac)) ≡ Accepted) × (Ad.admission (So.solid (now bp) (now bc)) ≡ Accepted) ⌝ }
-    requires { ⌜ Wo.Ready (now ap) (now ac) (now ae) × Wo.Ready (now bp) (now bc) (now be) ⌝ }
+    requires { ⌜ Ed.Ready (now ap) (now ac) (now ae) × Ed.Ready (now bp) (now bc) (now be) ⌝ }
     requires { ⌜ (z ≡ Fi.sizes (So.solid (now ap) (now ac)) (So.solid (now bp) (now bc))) × (Ta.total z ≤ 4096) ⌝ }
     requires { ⌜ (take (9 * (z .fa + z .fb)) (now halves) ≡ Fi.halves (So.solid (now ap) (now ac)) (So.solid (now bp) (now bc))) × (4608 ≤ length (now halves)) ⌝ }
     ensures { λ r. ⌜ Op.called r (Op.lists (now (points .exit)) (now (corners .exit)) (now (origins .exit))) ≡ Op.operate op (So.solid (now (ap .entry)) (now (ac .entry))) (So.solid (now (bp .entry)) (now (bc .entry))) (Op.lists (now (points .entry)) (now (corners .entry)) (now (origins .entry))) ⌝ }
@@ -72,7 +72,7 @@ fn in_large(
     origins: &mut [u32],
 ) -> Made
     requires { ⌜ (Ad.admission (So.solid (now ap) (now ac)) ≡ Accepted) × (Ad.admission (So.solid (now bp) (now bc)) ≡ Accepted) ⌝ }
-    requires { ⌜ Wo.Ready (now ap) (now ac) (now ae) × Wo.Ready (now bp) (now bc) (now be) ⌝ }
+    requires { ⌜ Ed.Ready (now ap) (now ac) (now ae) × Ed.Ready (now bp) (now bc) (now be) ⌝ }
     requires { ⌜ (z ≡ Fi.sizes (So.solid (now ap) (now ac)) (So.solid (now bp) (now bc))) × (Ta.total z ≤ 196864) ⌝ }
     requires { ⌜ (take (9 * (z .fa + z .fb)) (now halves) ≡ Fi.halves (So.solid (now ap) (now ac)) (So.solid (now bp) (now bc))) × (4608 ≤ length (now halves)) ⌝ }
     ensures { λ r. ⌜ Op.called r (Op.lists (now (points .exit)) (now (corners .exit)) (now (origins .exit))) ≡ Op.operate op (So.solid (now (ap .entry)) (now (ac .entry))) (So.solid (now (bp .entry)) (now (bc .entry))) (Op.lists (now (points .entry)) (now (corners .entry)) (now (origins .entry))) ⌝ }

@@ -6,7 +6,7 @@ use mir.Val.{ofZ, toZ}
 use Rattle.results.specs.declared.Operation.{Operation}
 use Rattle.results.specs.declared.Numbers.{Numbers}
 use Rattle.results.specs.Inclusion.{numbers, cA, cB, cI}
-use Rattle.building.proofs.Ints.{back-32}
+use Rattle.sums.proofs.Widths.{back-32}
 use Rattle.tables.proofs.Good.{small-numbers}
 
 module _ (op : Operation) {n : Numbers} (e : n ≡ numbers op) where

@@ -6,7 +6,7 @@ use lib.IntN.{ℤ, pos, negsuc, natAbs}
 use mir.Syntax.{w8, w32}
 use mir.Val.{SFits, ofZ, toZ}
 use mir.Facts.{toZ-ofZ}
-use Rattle.building.proofs.Ints.{back-32}
+use Rattle.sums.proofs.Widths.{back-32}
 
 pub fits-8 : (z : ℤ) → natAbs z ≤ 1 → SFits w8 z
 fits-8 (pos n) h = record { sfits = omega arith }

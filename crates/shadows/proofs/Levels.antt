@@ -25,8 +25,8 @@ use Rattle.solids.proofs.Admitted.{Passed}
 use Rattle.tables.specs.Filled.{half-list}
 use Rattle.tables.proofs.Halves.{length-half-list}
 use Rattle.solids.proofs.Room.{edges-room}
-use Rattle.slots.specs.Words.{Ready, edge-numbered}
-use Rattle.slots.proofs.Ends.{start-there, stop-there, start-below, stop-below}
+use Rattle.edges.specs.Words.{Ready, edge-numbered}
+use Rattle.edges.proofs.Ends.{start-there, stop-there, start-below, stop-below}
 use Rattle.shadows.specs.declared.Level.{Level}
 use Rattle.shadows.specs.declared.Level.the-variants.{VertexEdge, VertexFacet, EdgeEdge}
 use Rattle.shadows.specs.Words.{at, Readable, Facet-readable, around, edge-S, own-edge, S-at, rows, columns, Whole}

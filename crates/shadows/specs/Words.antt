@@ -12,7 +12,7 @@ use Rattle.crossings.specs.Crossings.{S, ve, ev, ee}
 use Rattle.solids.specs.Solids.{Solid, vertices, facets, vertex, edge, facet, edges}
 use Rattle.solids.specs.Table.{facet-S}
 use Rattle.building.specs.Table.{edge-at, against}
-use Rattle.slots.specs.Words.{edge-numbered}
+use Rattle.edges.specs.Words.{edge-numbered}
 use Rattle.shadows.specs.declared.Level.{Level}
 use Rattle.shadows.specs.declared.Level.the-variants.{VertexEdge, VertexFacet, EdgeEdge}
 

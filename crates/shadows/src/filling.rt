@@ -14,7 +14,7 @@ ghost use Rattle.solids.specs.Solids as So;
 ghost use Rattle.solids.specs.Admission as Ad;
 ghost use Rattle.solids.specs.declared.Verdict.the-variants.{Accepted};
 ghost use Rattle.tables.specs.Filled as Fi;
-ghost use Rattle.slots.specs.Words as Sl;
+ghost use Rattle.edges.specs.Words as Ed;
 ghost use Rattle.shadows.specs.Words as Wo;
 
 fn edge_s(as_b: bool, v: Point, e: Edge) -> i32
@@ -37,12 +37,12 @@ fn vertex_edge(
     ends: &[u32; 768],
     e: usize,
 ) -> i32
-    requires { ⌜ (i < length (now own) / 3) × Sl.Ready (now points) (now corners) (now ends) × (e < length (So.edges (So.solid (now points) (now corners)))) ⌝ }
+    requires { ⌜ (i < length (now own) / 3) × Ed.Ready (now points) (now corners) (now ends) × (e < length (So.edges (So.solid (now points) (now corners)))) ⌝ }
     ensures { λ r. ⌜ r ≡ Wo.S-at Level.VertexEdge «as_b» (So.solid (now (own .entry)) []) (So.solid (now (points .entry)) (now (corners .entry))) i e ⌝ }
     ensures small { λ r. ⌜ natAbs r ≤ 1 ⌝ }
 {
     let v = checks::vertices::vertex(own, i);
-    edge_s(as_b, v, slots::edge_at(points, ends, corners, e))
+    edge_s(as_b, v, edges::edge_at(points, ends, corners, e))
 }
 
 // "X(vA,fB) = - sum S(vA,h)", "X(fA,vB) = sum S(h,vB)": where the sum is 0 nothing more is worked out.
@@ -83,8 +83,8 @@ fn edge_edge(
     of_a: &[i8],
     of_b: &[i8],
 ) -> i32
-    requires { ⌜ Sl.Ready (now ap) (now ac) (now ae) × (e < length (So.edges (So.solid (now ap) (now ac)))) ⌝ }
-    requires { ⌜ Sl.Ready (now bp) (now bc) (now be) × (g < length (So.edges (So.solid (now bp) (now bc)))) ⌝ }
+    requires { ⌜ Ed.Ready (now ap) (now ac) (now ae) × (e < length (So.edges (So.solid (now ap) (now ac)))) ⌝ }
+    requires { ⌜ Ed.Ready (now bp) (now bc) (now be) × (g < length (So.edges (So.solid (now bp) (now bc)))) ⌝ }
     requires { ⌜ Wo.Below Level.EdgeEdge true (So.solid (now ap) (now ac)) (So.solid (now bp) (now bc)) (now «of_a») (now «of_b») ⌝ }
     ensures { λ r. ⌜ r ≡ Wo.S-at Level.EdgeEdge true (So.solid (now (ap .entry)) (now (ac .entry))) (So.solid (now (bp .entry)) (now (bc .entry))) e g ⌝ }
     ensures small { λ r. ⌜ natAbs r ≤ 1 ⌝ }
@@ -92,8 +92,8 @@ fn edge_edge(
     if reading::rise(of_a, ae, e, g) + reading::rise(of_b, be, g, e) == 0 {
         return 0;
     }
-    let a = slots::edge_at(ap, ae, ac, e);
-    edgewise::ee(a, slots::edge_at(bp, be, bc, g)).s(Axis::Z)
+    let a = edges::edge_at(ap, ae, ac, e);
+    edgewise::ee(a, edges::edge_at(bp, be, bc, g)).s(Axis::Z)
 }
 
 fn s_at(
@@ -111,8 +111,8 @@ fn s_at(
     mine: &[i8],
     theirs: &[i8],
 ) -> i32
-    requires { ⌜ Sl.Ready (now own) (now «own_corners») (now «own_ends») × (i < Wo.rows level (So.solid (now own) (now «own_corners»))) ⌝ }
-    requires { ⌜ Sl.Ready (now points) (now corners) (now ends) × (j < Wo.columns level (So.solid (now points) (now corners))) ⌝ }
+    requires { ⌜ Ed.Ready (now own) (now «own_corners») (now «own_ends») × (i < Wo.rows level (So.solid (now own) (now «own_corners»))) ⌝ }
+    requires { ⌜ Ed.Ready (now points) (now corners) (now ends) × (j < Wo.columns level (So.solid (now points) (now corners))) ⌝ }
     requires { ⌜ (Ad.admission (So.solid (now points) (now corners)) ≡ Accepted) × (now halves ≡ Fi.half-list (So.solid (now points) (now corners))) ⌝ }
     requires { ⌜ Wo.Below level «as_b» (So.solid (now own) (now «own_corners»)) (So.solid (now points) (now corners)) (now mine) (now theirs) ⌝ }
     ensures { λ r. ⌜ r ≡ Wo.S-at level «as_b» (So.solid (now (own .entry)) (now («own_corners» .entry))) (So.solid (now (points .entry)) (now (corners .entry))) i j ⌝ }
@@ -153,8 +153,8 @@ fn fill_row(
     theirs: &[i8],
     table: &mut [i8],
 )
-    requires { ⌜ Sl.Ready (now own) (now «own_corners») (now «own_ends») × (i < Wo.rows level (So.solid (now own) (now «own_corners»))) ⌝ }
-    requires { ⌜ Sl.Ready (now points) (now corners) (now ends) × (many ≡ Wo.columns level (So.solid (now points) (now corners))) × (many ≤ 384) ⌝ }
+    requires { ⌜ Ed.Ready (now own) (now «own_corners») (now «own_ends») × (i < Wo.rows level (So.solid (now own) (now «own_corners»))) ⌝ }
+    requires { ⌜ Ed.Ready (now points) (now corners) (now ends) × (many ≡ Wo.columns level (So.solid (now points) (now corners))) × (many ≤ 384) ⌝ }
     requires { ⌜ (Ad.admission (So.solid (now points) (now corners)) ≡ Accepted) × (now halves ≡ Fi.half-list (So.solid (now points) (now corners))) ⌝ }
     requires { ⌜ Wo.Below level «as_b» (So.solid (now own) (now «own_corners»)) (So.solid (now points) (now corners)) (now mine) (now theirs) ⌝ }
     requires { ⌜ (i < 384) × (384 * i + 384 ≤ length (now table)) ⌝ }
@@ -201,8 +201,8 @@ pub fn fill_rows(
     theirs: &[i8],
     table: &mut [i8],
 )
-    requires { ⌜ Sl.Ready (now own) (now «own_corners») (now «own_ends») × (rows ≡ Wo.rows level (So.solid (now own) (now «own_corners»))) × (rows ≤ 384) ⌝ }
-    requires { ⌜ Sl.Ready (now points) (now corners) (now ends) × (many ≡ Wo.columns level (So.solid (now points) (now corners))) × (many ≤ 384) ⌝ }
+    requires { ⌜ Ed.Ready (now own) (now «own_corners») (now «own_ends») × (rows ≡ Wo.rows level (So.solid (now own) (now «own_corners»))) × (rows ≤ 384) ⌝ }
+    requires { ⌜ Ed.Ready (now points) (now corners) (now ends) × (many ≡ Wo.columns level (So.solid (now points) (now corners))) × (many ≤ 384) ⌝ }
     requires { ⌜ (Ad.admission (So.solid (now points) (now corners)) ≡ Accepted) × (now halves ≡ Fi.half-list (So.solid (now points) (now corners))) ⌝ }
     requires { ⌜ Wo.Below level «as_b» (So.solid (now own) (now «own_corners»)) (So.solid (now points) (now corners)) (now mine) (now theirs) ⌝ }
     requires { ⌜ 384 * rows ≤ length (now table) ⌝ }

@@ -17,6 +17,7 @@ ghost use Rattle.solids.specs.Admission as Ad;
 ghost use Rattle.solids.specs.declared.Verdict.the-variants.{Accepted};
 ghost use Rattle.results.specs.Inclusion as In;
 ghost use Rattle.tables.specs.Filled as Fi;
+ghost use Rattle.edges.specs.Words as Ed;
 ghost use Rattle.slots.specs.Words as Sl;
 ghost use Rattle.shadows.specs.Words as Wo;
 
@@ -73,7 +74,7 @@ fn of_edge(
     of_a: &[i8],
     pairs: &[i8],
 ) -> i32
-    requires { ⌜ Sl.Ready (now ap) (now ac) (now ae) × (e < length (So.edges (So.solid (now ap) (now ac)))) × (f < length (now bc) / 3) ⌝ }
+    requires { ⌜ Ed.Ready (now ap) (now ac) (now ae) × (e < length (So.edges (So.solid (now ap) (now ac)))) × (f < length (now bc) / 3) ⌝ }
     requires { ⌜ (Ad.admission (So.solid (now bp) (now bc)) ≡ Accepted) × (now hb ≡ Fi.half-list (So.solid (now bp) (now bc))) ⌝ }
     requires { ⌜ Wo.Whole Level.VertexFacet true (So.solid (now ap) (now ac)) (So.solid (now bp) (now bc)) (now «of_a») × Wo.Whole Level.EdgeEdge true (So.solid (now ap) (now ac)) (So.solid (now bp) (now bc)) (now pairs) ⌝ }
     ensures { λ r. ⌜ r ≡ In.inclusion op (So.solid (now (ap .entry)) (now (ac .entry))) (So.solid (now (bp .entry)) (now (bc .entry))) (Sl.key-of (So.solid (now (ap .entry)) (now (ac .entry))) (So.solid (now (bp .entry)) (now (bc .entry))) (Slot.EdgeFacet e f)) ⌝ }
@@ -97,7 +98,7 @@ fn of_facet(
     of_b: &[i8],
     pairs: &[i8],
 ) -> i32
-    requires { ⌜ Sl.Ready (now bp) (now bc) (now be) × (e < length (So.edges (So.solid (now bp) (now bc)))) × (f < length (now ac) / 3) ⌝ }
+    requires { ⌜ Ed.Ready (now bp) (now bc) (now be) × (e < length (So.edges (So.solid (now bp) (now bc)))) × (f < length (now ac) / 3) ⌝ }
     requires { ⌜ (Ad.admission (So.solid (now ap) (now ac)) ≡ Accepted) × (now ha ≡ Fi.half-list (So.solid (now ap) (now ac))) ⌝ }
     requires { ⌜ Wo.Whole Level.VertexFacet false (So.solid (now bp) (now bc)) (So.solid (now ap) (now ac)) (now «of_b») × Wo.Whole Level.EdgeEdge true (So.solid (now ap) (now ac)) (So.solid (now bp) (now bc)) (now pairs) ⌝ }
     ensures { λ r. ⌜ r ≡ In.inclusion op (So.solid (now (ap .entry)) (now (ac .entry))) (So.solid (now (bp .entry)) (now (bc .entry))) (Sl.key-of (So.solid (now (ap .entry)) (now (ac .entry))) (So.solid (now (bp .entry)) (now (bc .entry))) (Slot.FacetEdge f e)) ⌝ }
@@ -123,7 +124,7 @@ fn inclusion_at(
     pairs: &[i8],
 ) -> i32
     requires { ⌜ (Ad.admission (So.solid (now ap) (now ac)) ≡ Accepted) × (Ad.admission (So.solid (now bp) (now bc)) ≡ Accepted) ⌝ }
-    requires { ⌜ Sl.Ready (now ap) (now ac) (now ae) × Sl.Ready (now bp) (now bc) (now be) ⌝ }
+    requires { ⌜ Ed.Ready (now ap) (now ac) (now ae) × Ed.Ready (now bp) (now bc) (now be) ⌝ }
     requires { ⌜ (now ha ≡ Fi.half-list (So.solid (now ap) (now ac))) × (now hb ≡ Fi.half-list (So.solid (now bp) (now bc))) ⌝ }
     requires { ⌜ Wo.Tables (So.solid (now ap) (now ac)) (So.solid (now bp) (now bc)) (now «of_a») (now «of_b») (now pairs) ⌝ }
     requires { ⌜ Sl.Within (So.solid (now ap) (now ac)) (So.solid (now bp) (now bc)) slot ⌝ }
@@ -156,7 +157,7 @@ fn read_all(
     inc: &mut [i16],
 )
     requires { ⌜ (Ad.admission (So.solid (now ap) (now ac)) ≡ Accepted) × (Ad.admission (So.solid (now bp) (now bc)) ≡ Accepted) ⌝ }
-    requires { ⌜ Sl.Ready (now ap) (now ac) (now ae) × Sl.Ready (now bp) (now bc) (now be) ⌝ }
+    requires { ⌜ Ed.Ready (now ap) (now ac) (now ae) × Ed.Ready (now bp) (now bc) (now be) ⌝ }
     requires { ⌜ (now ha ≡ Fi.half-list (So.solid (now ap) (now ac))) × (now hb ≡ Fi.half-list (So.solid (now bp) (now bc))) ⌝ }
     requires { ⌜ Wo.Tables (So.solid (now ap) (now ac)) (So.solid (now bp) (now bc)) (now «of_a») (now «of_b») (now pairs) ⌝ }
     requires { ⌜ (z ≡ Fi.sizes (So.solid (now ap) (now ac)) (So.solid (now bp) (now bc))) × Ta.Sized z × (length (now inc) ≡ Ta.total z) ⌝ }
@@ -185,7 +186,7 @@ fn of_vertices(
     on_edges: &mut [i8],
     on_facets: &mut [i8],
 )
-    requires { ⌜ Sl.Ready (now own) (now «own_corners») (now «own_ends») × Sl.Ready (now points) (now corners) (now ends) ⌝ }
+    requires { ⌜ Ed.Ready (now own) (now «own_corners») (now «own_ends») × Ed.Ready (now points) (now corners) (now ends) ⌝ }
     requires { ⌜ (Ad.admission (So.solid (now points) (now corners)) ≡ Accepted) × (now halves ≡ Fi.half-list (So.solid (now points) (now corners))) ⌝ }
     requires { ⌜ (edges ≡ length (So.edges (So.solid (now points) (now corners)))) × (384 * (length (now own) / 3) ≤ length (now «on_edges»)) × (384 * (length (now own) / 3) ≤ length (now «on_facets»)) ⌝ }
     ensures edges { λ r. ⌜ Wo.Whole Level.VertexEdge «as_b» (So.solid (now (own .entry)) (now («own_corners» .entry))) (So.solid (now (points .entry)) (now (corners .entry))) (now («on_edges» .exit)) ⌝ }
@@ -245,7 +246,7 @@ fn tables(
     pairs: &mut [i8],
 )
     requires { ⌜ (Ad.admission (So.solid (now ap) (now ac)) ≡ Accepted) × (Ad.admission (So.solid (now bp) (now bc)) ≡ Accepted) ⌝ }
-    requires { ⌜ Sl.Ready (now ap) (now ac) (now ae) × Sl.Ready (now bp) (now bc) (now be) ⌝ }
+    requires { ⌜ Ed.Ready (now ap) (now ac) (now ae) × Ed.Ready (now bp) (now bc) (now be) ⌝ }
     requires { ⌜ (now ha ≡ Fi.half-list (So.solid (now ap) (now ac))) × (now hb ≡ Fi.half-list (So.solid (now bp) (now bc))) ⌝ }
     requires { ⌜ z ≡ Fi.sizes (So.solid (now ap) (now ac)) (So.solid (now bp) (now bc)) ⌝ }
     requires { ⌜ (384 * z .va ≤ length (now ve)) × (384 * z .vb ≤ length (now ev)) ⌝ }
@@ -291,7 +292,7 @@ fn fill_by(
     inc: &mut [i16],
 )
     requires { ⌜ (Ad.admission (So.solid (now ap) (now ac)) ≡ Accepted) × (Ad.admission (So.solid (now bp) (now bc)) ≡ Accepted) ⌝ }
-    requires { ⌜ Sl.Ready (now ap) (now ac) (now ae) × Sl.Ready (now bp) (now bc) (now be) ⌝ }
+    requires { ⌜ Ed.Ready (now ap) (now ac) (now ae) × Ed.Ready (now bp) (now bc) (now be) ⌝ }
     requires { ⌜ now halves ≡ Fi.halves (So.solid (now ap) (now ac)) (So.solid (now bp) (now bc)) ⌝ }
     requires { ⌜ (384 * z .va ≤ length (now ve)) × (384 * z .vb ≤ length (now ev)) ⌝ }
     requires { ⌜ (384 * z .va ≤ length (now «of_a»)) × (384 * z .vb ≤ length (now «of_b»)) × (384 * z .ea ≤ length (now pairs)) ⌝ }
@@ -345,7 +346,7 @@ fn fill_small(
     inc: &mut [i16],
 )
     requires { ⌜ (Ad.admission (So.solid (now ap) (now ac)) ≡ Accepted) × (Ad.admission (So.solid (now bp) (now bc)) ≡ Accepted) ⌝ }
-    requires { ⌜ Sl.Ready (now ap) (now ac) (now ae) × Sl.Ready (now bp) (now bc) (now be) ⌝ }
+    requires { ⌜ Ed.Ready (now ap) (now ac) (now ae) × Ed.Ready (now bp) (now bc) (now be) ⌝ }
     requires { ⌜ now halves ≡ Fi.halves (So.solid (now ap) (now ac)) (So.solid (now bp) (now bc)) ⌝ }
     requires { ⌜ (z ≡ Fi.sizes (So.solid (now ap) (now ac)) (So.solid (now bp) (now bc))) × Ta.Sized z × (length (now inc) ≡ Ta.total z) ⌝ }
     requires { ⌜ (z .va ≤ 16) × (z .vb ≤ 16) × (z .ea ≤ 42) ⌝ }
@@ -388,7 +389,7 @@ fn fill_large(
     inc: &mut [i16],
 )
     requires { ⌜ (Ad.admission (So.solid (now ap) (now ac)) ≡ Accepted) × (Ad.admission (So.solid (now bp) (now bc)) ≡ Accepted) ⌝ }
-    requires { ⌜ Sl.Ready (now ap) (now ac) (now ae) × Sl.Ready (now bp) (now bc) (now be) ⌝ }
+    requires { ⌜ Ed.Ready (now ap) (now ac) (now ae) × Ed.Ready (now bp) (now bc) (now be) ⌝ }
     requires { ⌜ now halves ≡ Fi.halves (So.solid (now ap) (now ac)) (So.solid (now bp) (now bc)) ⌝ }
     requires { ⌜ (z ≡ Fi.sizes (So.solid (now ap) (now ac)) (So.solid (now bp) (now bc))) × Ta.Sized z × (length (now inc) ≡ Ta.total z) ⌝ }
     ensures { λ r. ⌜ now (inc .exit) ≡ Fi.inclusions op (So.solid (now (ap .entry)) (now (ac .entry))) (So.solid (now (bp .entry)) (now (bc .entry))) ⌝ }
@@ -431,7 +432,7 @@ pub fn fill(
     inc: &mut [i16],
 )
     requires { ⌜ (Ad.admission (So.solid (now ap) (now ac)) ≡ Accepted) × (Ad.admission (So.solid (now bp) (now bc)) ≡ Accepted) ⌝ }
-    requires { ⌜ Sl.Ready (now ap) (now ac) (now ae) × Sl.Ready (now bp) (now bc) (now be) ⌝ }
+    requires { ⌜ Ed.Ready (now ap) (now ac) (now ae) × Ed.Ready (now bp) (now bc) (now be) ⌝ }
     requires { ⌜ now halves ≡ Fi.halves (So.solid (now ap) (now ac)) (So.solid (now bp) (now bc)) ⌝ }
     requires { ⌜ (z ≡ Fi.sizes (So.solid (now ap) (now ac)) (So.solid (now bp) (now bc))) × Ta.Sized z × (length (now inc) ≡ Ta.total z) ⌝ }
     ensures { λ r. ⌜ now (inc .exit) ≡ Fi.inclusions op (So.solid (now (ap .entry)) (now (ac .entry))) (So.solid (now (bp .entry)) (now (bc .entry))) ⌝ }

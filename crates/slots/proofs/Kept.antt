@@ -27,11 +27,11 @@ use Rattle.results.specs.Vertices.{keys, kept}
 use Rattle.results.specs.Triangles.{listed, result}
 use Rattle.building.specs.declared.Sizes.{Sizes}
 use Rattle.laying.specs.Rank.{rank}
-use Rattle.laying.proofs.Ints.{nonzero-test}
+use Rattle.sums.proofs.Widths.{nonzero-test}
 use Rattle.laying.proofs.Ranks.{rank-next}
 use Rattle.tables.specs.Filled.{sizes, inclusions}
 use Rattle.tables.proofs.Keys.{no-key, length-keys}
-use Rattle.tables.proofs.Lists.{by-places, at-map}
+use Rattle.sums.proofs.Places.{by-places, at-map}
 use Rattle.slots.specs.declared.Slot.{Slot}
 use Rattle.slots.specs.Words.{slot-of, key-of}
 use Rattle.slots.specs.Kept.{kept-slots, slot-point, points-kept}

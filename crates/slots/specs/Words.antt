@@ -10,7 +10,7 @@ use Rattle.solids.specs.Solids.{Solid, Half, solid, vertices, facets, edges}
 use Rattle.solids.specs.Table.{Named}
 use Rattle.results.specs.Inclusion.{Key, vA, eAfB, fAeB, vB}
 use Rattle.building.specs.declared.Sizes.{Sizes}
-use Rattle.edges.specs.Words.{two-each}
+use Rattle.edges.specs.Words.{edge-numbered}
 use Rattle.slots.specs.declared.Slot.{Slot}
 use Rattle.slots.specs.declared.Slot.the-variants.{VertexA, EdgeFacet, FacetEdge, VertexB}
 
@@ -22,10 +22,6 @@ slot-of z k =
     cond (ltb k (z .va)) (VertexA k)
     (cond (ltb j (z .ea * z .fb)) (EdgeFacet (j / z .fb) (j % z .fb))
     (cond (ltb m (z .fa * z .eb)) (FacetEdge (m / z .eb) (m % z .eb)) (VertexB (m - z .fa * z .eb))))
-
--- the edge with a number
-abbrev pub edge-numbered : Solid → ℕ → Half
-edge-numbered s e = getD (edges s) e (0, 0)
 
 unfoldable pub key-of : Solid → Solid → Slot → Key
 key-of a b (VertexA i) = vA i
@@ -39,12 +35,3 @@ Within a b (VertexA i) = i < vertices a
 Within a b (EdgeFacet e f) = (e < length (edges a)) × (f < facets b)
 Within a b (FacetEdge f e) = (f < facets a) × (e < length (edges b))
 Within a b (VertexB i) = i < vertices b
-
--- a solid's corners name its vertices, and its edges' ends stand in a list
-pub record Ready (points : List Float) (corners ends : List ℕ) : Type 0 where
-  pub named : Named points corners
-  pub few-points : length points ≤ 384
-  pub few : length corners ≤ 768
-  pub room : length ends ≡ 768
-  pub edges-few : length (edges (solid points corners)) ≤ 384
-  pub front : take (2 * length (edges (solid points corners))) ends ≡ two-each (edges (solid points corners))

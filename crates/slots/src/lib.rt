@@ -3,7 +3,6 @@ pub mod places;
 
 use building::Sizes;
 use crossings::Crossing;
-use crossings::Edge;
 ghost use mathlib.Core.Path.{_≡_};
 ghost use Prim.Native.Nat.{_+_, _*_, _/_, _<_};
 ghost use lib.ListN.{length};
@@ -11,6 +10,7 @@ ghost use Rattle.building.specs.Table as Ta;
 ghost use Rattle.solids.specs.Solids as So;
 ghost use Rattle.solids.specs.Table as Sl;
 ghost use Rattle.results.specs.Inclusion as In;
+ghost use Rattle.edges.specs.Words as Ed;
 ghost use Rattle.slots.specs.Words as Wo;
 
 // A vertex of A, an edge of A with a facet of B, a facet of A with an edge of B, a vertex of B; edges by their numbers.
@@ -44,19 +44,6 @@ pub fn slot_at(z: Sizes, k: usize) -> Slot
     Slot::VertexB(m - on_facets)
 }
 
-// Edge number e, from its two ends in the list.
-pub fn edge_at(points: &[f64], ends: &[u32; 768], corners: &[u32], e: usize) -> Edge
-    requires { ⌜ Wo.Ready (now points) (now corners) (now ends) × (e < length (So.edges (So.solid (now points) (now corners)))) ⌝ }
-    ensures { λ r. ⌜ r ≡ So.edge (So.solid (now (points .entry)) (now (corners .entry))) (Wo.edge-numbered (So.solid (now (points .entry)) (now (corners .entry))) e) ⌝ }
-{
-    let start = ends[2 * e] as usize;
-    let end = ends[2 * e + 1] as usize;
-    Edge {
-        start: checks::vertices::vertex(points, start),
-        end: checks::vertices::vertex(points, end),
-    }
-}
-
 // "The crossings by edge of A, then facet of B": the one place where they are asked for.
 pub fn edge_facet(
     ap: &[f64],
@@ -67,11 +54,11 @@ pub fn edge_facet(
     bc: &[u32],
     f: usize,
 ) -> Crossing
-    requires { ⌜ Wo.Ready (now ap) (now ac) (now ends) × (e < length (So.edges (So.solid (now ap) (now ac)))) ⌝ }
+    requires { ⌜ Ed.Ready (now ap) (now ac) (now ends) × (e < length (So.edges (So.solid (now ap) (now ac)))) ⌝ }
     requires { ⌜ Sl.Named (now bp) (now bc) × (f < length (now bc) / 3) ⌝ }
-    ensures { λ r. ⌜ r ≡ In.edge-facet (So.solid (now (ap .entry)) (now (ac .entry))) (So.solid (now (bp .entry)) (now (bc .entry))) (Wo.edge-numbered (So.solid (now (ap .entry)) (now (ac .entry))) e) f ⌝ }
+    ensures { λ r. ⌜ r ≡ In.edge-facet (So.solid (now (ap .entry)) (now (ac .entry))) (So.solid (now (bp .entry)) (now (bc .entry))) (Ed.edge-numbered (So.solid (now (ap .entry)) (now (ac .entry))) e) f ⌝ }
 {
-    let edge = edge_at(ap, ends, ac, e);
+    let edge = edges::edge_at(ap, ends, ac, e);
     let facet = containment::facet(bp, bc, f);
     edgewise::ef(edge, facet)
 }
@@ -87,10 +74,10 @@ pub fn facet_edge(
     e: usize,
 ) -> Crossing
     requires { ⌜ Sl.Named (now ap) (now ac) × (f < length (now ac) / 3) ⌝ }
-    requires { ⌜ Wo.Ready (now bp) (now bc) (now ends) × (e < length (So.edges (So.solid (now bp) (now bc)))) ⌝ }
-    ensures { λ r. ⌜ r ≡ In.facet-edge (So.solid (now (ap .entry)) (now (ac .entry))) (So.solid (now (bp .entry)) (now (bc .entry))) f (Wo.edge-numbered (So.solid (now (bp .entry)) (now (bc .entry))) e) ⌝ }
+    requires { ⌜ Ed.Ready (now bp) (now bc) (now ends) × (e < length (So.edges (So.solid (now bp) (now bc)))) ⌝ }
+    ensures { λ r. ⌜ r ≡ In.facet-edge (So.solid (now (ap .entry)) (now (ac .entry))) (So.solid (now (bp .entry)) (now (bc .entry))) f (Ed.edge-numbered (So.solid (now (bp .entry)) (now (bc .entry))) e) ⌝ }
 {
     let facet = containment::facet(ap, ac, f);
-    let edge = edge_at(bp, ends, bc, e);
+    let edge = edges::edge_at(bp, ends, bc, e);
     edgewise::fe(facet, edge)
 }

@@ -12,6 +12,7 @@ ghost use Rattle.solids.specs.Solids as So;
 ghost use Rattle.solids.specs.Table as Sl;
 ghost use Rattle.results.specs.Inclusion as In;
 ghost use Rattle.tables.specs.Filled as Fi;
+ghost use Rattle.edges.specs.Words as Ed;
 ghost use Rattle.slots.specs.Words as Wo;
 ghost use Rattle.slots.specs.Kept as Ke;
 
@@ -25,7 +26,7 @@ fn edge_facet_place(
     bc: &[u32],
     f: usize,
 ) -> Point
-    requires { ⌜ Wo.Ready (now ap) (now ac) (now ae) × (e < length (So.edges (So.solid (now ap) (now ac)))) ⌝ }
+    requires { ⌜ Ed.Ready (now ap) (now ac) (now ae) × (e < length (So.edges (So.solid (now ap) (now ac)))) ⌝ }
     requires { ⌜ Sl.Named (now bp) (now bc) × (f < length (now bc) / 3) ⌝ }
     ensures { λ r. ⌜ r ≡ In.place (So.solid (now (ap .entry)) (now (ac .entry))) (So.solid (now (bp .entry)) (now (bc .entry))) (Wo.key-of (So.solid (now (ap .entry)) (now (ac .entry))) (So.solid (now (bp .entry)) (now (bc .entry))) (Slot.EdgeFacet e f)) ⌝ }
 {
@@ -44,7 +45,7 @@ fn facet_edge_place(
     e: usize,
 ) -> Point
     requires { ⌜ Sl.Named (now ap) (now ac) × (f < length (now ac) / 3) ⌝ }
-    requires { ⌜ Wo.Ready (now bp) (now bc) (now be) × (e < length (So.edges (So.solid (now bp) (now bc)))) ⌝ }
+    requires { ⌜ Ed.Ready (now bp) (now bc) (now be) × (e < length (So.edges (So.solid (now bp) (now bc)))) ⌝ }
     ensures { λ r. ⌜ r ≡ In.place (So.solid (now (ap .entry)) (now (ac .entry))) (So.solid (now (bp .entry)) (now (bc .entry))) (Wo.key-of (So.solid (now (ap .entry)) (now (ac .entry))) (So.solid (now (bp .entry)) (now (bc .entry))) (Slot.FacetEdge f e)) ⌝ }
 {
     let on_facet = crate::facet_edge(ap, ac, f, bp, bc, be, e).points();
@@ -60,7 +61,7 @@ pub fn place_at(
     bc: &[u32],
     be: &[u32; 768],
 ) -> Point
-    requires { ⌜ Wo.Ready (now ap) (now ac) (now ae) × Wo.Ready (now bp) (now bc) (now be) ⌝ }
+    requires { ⌜ Ed.Ready (now ap) (now ac) (now ae) × Ed.Ready (now bp) (now bc) (now be) ⌝ }
     requires { ⌜ Wo.Within (So.solid (now ap) (now ac)) (So.solid (now bp) (now bc)) slot ⌝ }
     ensures { λ r. ⌜ r ≡ In.place (So.solid (now (ap .entry)) (now (ac .entry))) (So.solid (now (bp .entry)) (now (bc .entry))) (Wo.key-of (So.solid (now (ap .entry)) (now (ac .entry))) (So.solid (now (bp .entry)) (now (bc .entry))) slot) ⌝ }
 {
@@ -85,7 +86,7 @@ fn put_slot(
     list: &mut [f64],
     at: usize,
 )
-    requires { ⌜ Wo.Ready (now ap) (now ac) (now ae) × Wo.Ready (now bp) (now bc) (now be) ⌝ }
+    requires { ⌜ Ed.Ready (now ap) (now ac) (now ae) × Ed.Ready (now bp) (now bc) (now be) ⌝ }
     requires { ⌜ (z ≡ Fi.sizes (So.solid (now ap) (now ac)) (So.solid (now bp) (now bc))) × Ta.Sized z × (k < Ta.total z) ⌝ }
     requires { ⌜ at + 3 ≤ length (now list) ⌝ }
     ensures { λ r. ⌜ now (list .exit) ≡ sets (now (list .entry)) at (Ke.slot-point (So.solid (now (ap .entry)) (now (ac .entry))) (So.solid (now (bp .entry)) (now (bc .entry))) z k) ⌝ }
@@ -107,7 +108,7 @@ pub fn put_points(
     be: &[u32; 768],
     points: &mut [f64],
 )
-    requires { ⌜ Wo.Ready (now ap) (now ac) (now ae) × Wo.Ready (now bp) (now bc) (now be) ⌝ }
+    requires { ⌜ Ed.Ready (now ap) (now ac) (now ae) × Ed.Ready (now bp) (now bc) (now be) ⌝ }
     requires { ⌜ (z ≡ Fi.sizes (So.solid (now ap) (now ac)) (So.solid (now bp) (now bc))) × Ta.Sized z × (length (now inc) ≡ Ta.total z) ⌝ }
     requires { ⌜ 3 * length (keep nonzero (now inc)) ≤ length (now points) ⌝ }
     ensures { λ r. ⌜ now (points .exit) ≡ onto (Ke.points-kept (So.solid (now (ap .entry)) (now (ac .entry))) (So.solid (now (bp .entry)) (now (bc .entry))) z (now (inc .entry))) (now (points .entry)) ⌝ }

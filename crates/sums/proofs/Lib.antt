@@ -9,3 +9,5 @@ pub mod Fans
 pub mod Threes
 pub mod Numbering
 pub mod Searches
+pub mod Places
+pub mod Widths

@@ -17,7 +17,7 @@ use Rattle.results.specs.Vertices.{keys, number}
 use Rattle.results.specs.Triangles.{triangles}
 use Rattle.building.specs.Table as T
 use Rattle.tables.specs.Filled.{sizes, inclusions, numbers, filled, halves}
-use Rattle.tables.proofs.Lists.{at-map}
+use Rattle.sums.proofs.Places.{at-map}
 use Rattle.solids.proofs.Room.{edges-room}
 use Rattle.solids.proofs.Sizes.{size-in-A, size-in-B}
 use Rattle.tables.proofs.Keys.{no-key, length-keys, at-crossing}

@@ -17,7 +17,7 @@ use Rattle.solids.proofs.Admitted.{Passed, Between}
 use Rattle.solids.proofs.Shut.{Is-edge, all-edges, mem-edges, between}
 use Rattle.building.specs.Table.{edge-at, against}
 use Rattle.tables.specs.Filled.{edge-number, half-first, half-numbers, half-list, halves}
-use Rattle.tables.proofs.Lists.{mem-getD, getD-behind, getD-upTo, place-at}
+use Rattle.sums.proofs.Places.{mem-getD, getD-behind, getD-upTo, place-at}
 use Rattle.tables.proofs.Keys.{no-half}
 use Rattle.solids.proofs.Room.{length-half-edges}
 

@@ -15,7 +15,7 @@ use Rattle.results.specs.Vertices.{keys}
 use Rattle.building.specs.Table.{on-edge, on-facet, of-B, total}
 use Rattle.building.proofs.Slots.{in-row}
 use Rattle.tables.specs.Filled.{sizes}
-use Rattle.tables.proofs.Lists.{all-getD, getD-behind, at-map, at-upTo, getD-upTo, length-blocks, getD-blocks}
+use Rattle.sums.proofs.Places.{all-getD, getD-behind, at-map, at-upTo, getD-upTo, length-blocks, getD-blocks}
 
 -- what would stand beyond the lists
 abbrev pub no-key : Key

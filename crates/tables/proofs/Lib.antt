@@ -1,4 +1,3 @@
-pub mod Lists
 pub mod Keys
 pub mod Numbers
 pub mod Halves

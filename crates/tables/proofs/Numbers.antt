@@ -14,7 +14,7 @@ use Rattle.results.specs.Vertices.{keys, kept, number, same-key}
 use Rattle.results.proofs.Keys.{same-key-sound, same-key-self}
 use Rattle.laying.specs.Rank.{rank, ranks}
 use Rattle.tables.specs.Filled.{inclusions, numbers}
-use Rattle.tables.proofs.Lists.{by-places, before-take, take-map, kept-map}
+use Rattle.sums.proofs.Places.{by-places, before-take, take-map, kept-map}
 use Rattle.tables.proofs.Keys.{no-key, distinct-keys}
 
 module _ (inc : Key → ℤ) (a b : Solid) where

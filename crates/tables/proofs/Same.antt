@@ -21,7 +21,7 @@ use Rattle.building.specs.declared.Sizes.{Sizes}
 use Rattle.building.specs.Table as T
 use Rattle.building.proofs.Slots.{edge-in, facet-in}
 use Rattle.tables.specs.Filled.{sizes, edge-number, halves}
-use Rattle.tables.proofs.Lists.{at-map, flat-upTo-add}
+use Rattle.sums.proofs.Places.{at-map, flat-upTo-add}
 use Rattle.tables.proofs.Keys.{no-key, no-half, length-keys, key-vA, key-eAfB, key-fAeB, key-vB}
 use Rattle.tables.proofs.Halves.{half-at, facet-half, reads-A, reads-B, known}
 

@@ -5,7 +5,7 @@ use lib.IntN.{pos}
 use lib.ListN.{getD}
 use mir.Syntax.{w16}
 use mir.Val.{SFits}
-use Rattle.laying.proofs.Ints.{nonzero-test}
+use Rattle.sums.proofs.Widths.{nonzero-test}
 use Rattle.building.proofs.ends.counted.Statement.{statement}
 use Rattle.building.proofs.ends.counted.Tie as tie
 

@@ -1,7 +1,7 @@
 -- `counts` meets its contract.
 use mathlib.Core.Path.{refl}
 use mir.Syntax.{w32}
-use Rattle.laying.proofs.Ints.{nonzero-test}
+use Rattle.sums.proofs.Widths.{nonzero-test}
 use Rattle.building.proofs.ends.counts.Statement.{statement}
 use Rattle.building.proofs.ends.counts.Tie as tie
 

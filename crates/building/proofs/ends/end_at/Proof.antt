@@ -5,7 +5,7 @@ use lib.ListN.{getD}
 use lib.IntN.{pos, +ℤ-idl}
 use mir.Facts.{toZ-ofZ}
 use Rattle.crossings.proofs.Fits.{fits, fits-neg}
-use Rattle.building.proofs.Ints.{back-16, back-32}
+use Rattle.sums.proofs.Widths.{back-16, back-32}
 use Rattle.building.proofs.ends.end_at.Statement.{statement}
 use Rattle.building.proofs.ends.end_at.Tie as tie
 

@@ -1,7 +1,7 @@
 -- `kept` meets its contract.
 use mathlib.Core.Path.{refl}
 use mir.Syntax.{w16}
-use Rattle.laying.proofs.Ints.{nonzero-test}
+use Rattle.sums.proofs.Widths.{nonzero-test}
 use Rattle.laying.proofs.numbers.kept.Statement.{statement}
 use Rattle.laying.proofs.numbers.kept.Tie as tie
 

@@ -8,7 +8,7 @@ use Rattle.points.specs.declared.Axis.the-variants.{Z}
 use Rattle.crossings.specs.Crossings.{S, ee}
 use Rattle.crossings.proofs.Fits.{fits}
 use Rattle.solids.specs.Solids.{solid}
-use Rattle.building.proofs.Ints.{back-32}
+use Rattle.sums.proofs.Widths.{back-32}
 use Rattle.shadows.specs.declared.Level.the-variants.{VertexEdge}
 use Rattle.shadows.specs.Words.{S-at}
 use Rattle.shadows.proofs.Ints.{is-zero}

@@ -1,7 +1,7 @@
 -- `edge_s` meets its contract.
 use mathlib.Core.Path.{_∙_}
 use native.Mathlib.Omega.{arith}
-use Rattle.building.proofs.Ints.{back-32}
+use Rattle.sums.proofs.Widths.{back-32}
 use Rattle.shadows.specs.Words.{edge-S}
 use borrow.Author.Needs.{needs}
 use Rattle.shadows.proofs.filling.edge_s.Statement.{statement}

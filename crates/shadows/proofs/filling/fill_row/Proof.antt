@@ -5,7 +5,7 @@ use native.Mathlib.Omega.{arith}
 use native.Mathlib.Nat.{le-antisymm}
 use lib.ListN.{length, length-set}
 use Rattle.solids.specs.Solids.{solid}
-use Rattle.building.proofs.Ints.{back-32}
+use Rattle.sums.proofs.Widths.{back-32}
 use Rattle.shadows.specs.Words.{S-at, Row, Rows}
 use Rattle.shadows.proofs.Ints.{fits-8, back-8}
 use Rattle.shadows.proofs.Tables.{row-next, rows-kept, rows-next}

@@ -3,7 +3,7 @@ use mathlib.Core.Path.{subst}
 use Prim.Native.Nat.{_<_}
 use native.Mathlib.Omega.{arith}
 use Rattle.solids.specs.Solids.{solid}
-use Rattle.building.proofs.Ints.{back-32}
+use Rattle.sums.proofs.Widths.{back-32}
 use Rattle.shadows.specs.Words.{S-at, rows, columns, Below}
 use borrow.Author.Needs.{needs}
 use Rattle.shadows.proofs.filling.s_at.Statement.{statement}

@@ -1,7 +1,7 @@
 -- `vertex_edge` meets its contract.
 use mathlib.Core.Path.{ap₂, _∙_}
 use native.Mathlib.Omega.{arith}
-use Rattle.building.proofs.Ints.{back-32}
+use Rattle.sums.proofs.Widths.{back-32}
 use Rattle.shadows.specs.Words.{edge-S, S-at}
 use borrow.Author.Needs.{needs}
 use Rattle.shadows.proofs.filling.vertex_edge.Statement.{statement}

@@ -7,7 +7,7 @@ use Rattle.solids.specs.Solids.{solid}
 use Rattle.solids.specs.Table.{facet-S}
 use Rattle.solids.proofs.Admitted.{passed}
 use Rattle.solids.proofs.Closure.{named}
-use Rattle.building.proofs.Ints.{back-32}
+use Rattle.sums.proofs.Widths.{back-32}
 use Rattle.shadows.specs.Words.{around, S-at}
 use Rattle.shadows.proofs.Ints.{is-zero}
 use Rattle.shadows.proofs.Levels.{facet-asks, facet-zero}

@@ -6,7 +6,7 @@ use lib.IntN.{_*ℤ_}
 use Rattle.solids.specs.Solids.{solid}
 use Rattle.solids.proofs.Admitted.{passed}
 use Rattle.results.specs.Inclusion.{cI, facet-edge, inclusion}
-use Rattle.building.proofs.Ints.{back-32}
+use Rattle.sums.proofs.Widths.{back-32}
 use Rattle.slots.specs.Words.{key-of}
 use Rattle.shadows.specs.declared.Level.the-variants.{VertexFacet}
 use Rattle.shadows.proofs.Levels.{rise-asks, fe-asks, fe-read}

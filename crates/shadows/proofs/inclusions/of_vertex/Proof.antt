@@ -5,7 +5,7 @@ use lib.IntN.{+ℤ-idl}
 use mir.Facts.{toZ-ofZ}
 use Rattle.sums.proofs.Integers.{bnd-neg}
 use Rattle.crossings.proofs.Fits.{fits-neg}
-use Rattle.building.proofs.Ints.{back-32}
+use Rattle.sums.proofs.Widths.{back-32}
 use Rattle.tables.proofs.Good.{small-numbers}
 use Rattle.shadows.proofs.Counts.{back-a, back-b, back-i}
 use borrow.Author.Needs.{needs}

@@ -5,7 +5,7 @@ use native.Mathlib.Omega.{arith}
 use lib.ListN.{length, length-set}
 use Rattle.building.specs.Table.{total}
 use Rattle.building.proofs.Slots.{few-slots}
-use Rattle.building.proofs.Ints.{back-32, fits-16, back-16}
+use Rattle.sums.proofs.Widths.{back-32, fits-16, back-16}
 use Rattle.solids.specs.Solids.{solid}
 use Rattle.results.specs.Inclusion.{inclusion}
 use Rattle.slots.specs.Words.{slot-of, key-of, Within}

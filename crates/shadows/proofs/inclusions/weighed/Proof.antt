@@ -4,7 +4,7 @@ use Prim.Native.Nat.{_≤_}
 use native.Mathlib.Omega.{arith}
 use lib.IntN.{natAbs, _+ℤ_, _*ℤ_}
 use Rattle.crossings.proofs.Fits.{fits}
-use Rattle.building.proofs.Ints.{back-32}
+use Rattle.sums.proofs.Widths.{back-32}
 use Rattle.tables.proofs.Good.{scaled, shifted}
 use Rattle.shadows.proofs.inclusions.weighed.Statement.{statement}
 use Rattle.shadows.proofs.inclusions.weighed.Tie as tie

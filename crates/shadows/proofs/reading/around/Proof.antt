@@ -6,7 +6,7 @@ use lib.IntN.{_+ℤ_}
 use Prim.Native.Nat.{_*_}
 use Rattle.crossings.proofs.Fits.{fits}
 use Rattle.sums.proofs.Integers.{bnd-add}
-use Rattle.building.proofs.Ints.{back-32}
+use Rattle.sums.proofs.Widths.{back-32}
 use Rattle.shadows.specs.Words.{Half-readable, around}
 use borrow.Author.Needs.{needs}
 use Rattle.shadows.proofs.reading.around.Statement.{statement}

@@ -6,7 +6,7 @@ use lib.IntN.{+ℤ-idl}
 use mir.Facts.{toZ-ofZ}
 use Rattle.crossings.proofs.Fits.{fits-neg}
 use Rattle.sums.proofs.Integers.{bnd-neg}
-use Rattle.building.proofs.Ints.{back-32}
+use Rattle.sums.proofs.Widths.{back-32}
 use Rattle.shadows.specs.Words.{half-value}
 use borrow.Author.Needs.{needs}
 use Rattle.shadows.proofs.reading.half_value.Statement.{statement}

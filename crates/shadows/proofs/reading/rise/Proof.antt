@@ -4,7 +4,7 @@ use native.Mathlib.Omega.{arith}
 use lib.IntN.{_-ℤ_, negℤ}
 use Rattle.crossings.proofs.Fits.{fits}
 use Rattle.sums.proofs.Integers.{bnd-add, bnd-neg}
-use Rattle.building.proofs.Ints.{back-32}
+use Rattle.sums.proofs.Widths.{back-32}
 use borrow.Author.Needs.{needs}
 use Rattle.shadows.proofs.reading.rise.Statement.{statement}
 use Rattle.shadows.proofs.reading.rise.Tie as tie

@@ -12,7 +12,7 @@ use Rattle.sums.specs.Lists.{sumOf, upTo}
 use Rattle.sums.proofs.Integers.{bnd-add}
 use Rattle.sums.proofs.UpTo.{sum-upTo-suc}
 use Rattle.crossings.proofs.Fits.{fits-sum}
-use Rattle.building.proofs.Ints.{back-32}
+use Rattle.sums.proofs.Widths.{back-32}
 use Rattle.shadows.specs.Words.{at}
 use borrow.Author.Needs.{needs}
 use Rattle.shadows.proofs.reading.row_sum.Statement.{statement}

@@ -4,7 +4,7 @@ use native.Mathlib.Omega.{arith}
 use lib.IntN.{pos}
 use lib.ListN.{getD}
 use Rattle.crossings.proofs.Fits.{fits}
-use Rattle.building.proofs.Ints.{back-32}
+use Rattle.sums.proofs.Widths.{back-32}
 use Rattle.shadows.proofs.Ints.{back-8}
 use borrow.Author.Needs.{needs}
 use Rattle.shadows.proofs.reading.value_at.Statement.{statement}

@@ -8,9 +8,8 @@ use lib.Seq.{getD-take}
 use lib.Ieee.{Float}
 use Rattle.solids.specs.Solids.{Solid, Half, solid, vertices, edges}
 use Rattle.solids.proofs.Shut.{Is-edge, all-edges}
-use Rattle.edges.specs.Words.{two-each}
-use Rattle.tables.proofs.Lists.{all-getD, getD-blocks}
-use Rattle.slots.specs.Words.{edge-numbered, Ready}
+use Rattle.edges.specs.Words.{two-each, edge-numbered, Ready}
+use Rattle.sums.proofs.Places.{all-getD, getD-blocks}
 
 module _ {points : List Float} {corners ends : List ℕ} (r : Ready points corners ends) (e : ℕ) where
   abbrev own : Solid

@@ -1,9 +1,9 @@
 -- `edge_at` meets its contract: its two ends are those of the edge with that number.
 use native.Mathlib.Omega.{arith}
 use borrow.Author.Needs.{needs}
-use Rattle.slots.proofs.Ends.{start-there, stop-there, start-below, stop-below}
-use Rattle.slots.proofs.edge_at.Statement.{statement}
-use Rattle.slots.proofs.edge_at.Tie as tie
+use Rattle.edges.proofs.Ends.{start-there, stop-there, start-below, stop-below}
+use Rattle.edges.proofs.edge_at.Statement.{statement}
+use Rattle.edges.proofs.edge_at.Tie as tie
 
 mul-start : tie.Need-mul-start
 mul-start c = search needs
