@@ -12,14 +12,15 @@
 # name are one row of the table. A call must come back to its caller, and must not run the caller inside it.
 BEGIN {
     part("admission", "checks::admission::")
-    part("making ready: edges and half-edges", "making::sides::ready")
-    part("clearing the tables", "")
-    part("S of vertices with edges and facets", "shadows::filling::fill_rows", 4)
-    part("S of two edges", "shadows::filling::fill_rows")
-    part("inclusions (containment is a row's sum), numbering, clearing the list of pieces", "")
-    part("pieces and triangles, measured", "building::triangles::put_triangles", 1)
+    part("making ready: edges and half-edges", "halves::sides::ready")
+    part("clearing the lists of crossings", "")
+    part("crossings found, with boxes", "found::find_kind")
+    part("inclusions of vertices", "found::inside::include_side")
+    part("numbers, marks by edge", "")
+    part("marks by facet", "marking::fill::mark_half")
+    part("triangles counted", "walking::count::tell_line walking::count::tell_pair")
     part("writing of the points", "")
-    part("pieces and triangles, written", "building::triangles::put_triangles")
+    part("pieces and triangles, written", "pieces::lines::half_pieces pieces::pairs::pair_pieces walking::boundary::row")
     operation = "measured_" side
     FS = "/"
 }

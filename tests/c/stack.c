@@ -1,25 +1,30 @@
 /* How much stack an operation takes: the stack below is painted, the call is made, and what is left of
-   the paint is looked for from the far end. Prints one number, in bytes, for solids that need the large
-   tables (docs/BENCHMARKS.md). No proof bounds it. */
+   the paint is looked for from the far end. Prints two numbers, in bytes: for solids of 16 vertices, and
+   for solids with more crossings than the short list holds (docs/BENCHMARKS.md). No proof bounds them. */
 #include "../../include/ozoravesh.h"
 #include <stdio.h>
 
 #define DEPTH ((size_t)4 << 20)
 #define PAINT 0x5a
 
-/* Twelve tetrahedra in a row, moved by `by`. */
-static double a[144], b[144];
-static uint32_t corners_of_both[144];
-static double points[1536];
-static uint32_t corners[3072];
-static uint32_t origins[1024];
+/* Needles, long thin tetrahedra side by side: at most 20, A's along x and B's along y. */
+#define MOST 20
+static double a[12 * MOST], b[12 * MOST];
+static uint32_t corners_of_both[12 * MOST];
+static double points[3 * 8192];
+static uint32_t corners[3 * 16384];
+static uint32_t origins[16384];
 
-static void row(double *p, double by) {
-    static const double T[12] = {0, 0, 0, 4, 0, 0, 0, 4, 0, 0, 0, 4};
+static void needles(double *p, size_t axis, double up) {
+    static const double T[12] = {-60, -0.2, 0, -60, 0.2, 0, 70, 0, -0.2, 70, 0, 0.2};
     static const uint32_t F[12] = {0, 2, 1, 0, 1, 3, 0, 3, 2, 1, 2, 3};
-    for (size_t k = 0; k < 12; k++) {
+    for (size_t k = 0; k < MOST; k++) {
+        for (size_t i = 0; i < 4; i++) {
+            p[12 * k + 3 * i + axis] = T[3 * i];
+            p[12 * k + 3 * i + 1 - axis] = T[3 * i + 1] + (double)k;
+            p[12 * k + 3 * i + 2] = T[3 * i + 2] + up;
+        }
         for (size_t i = 0; i < 12; i++) {
-            p[12 * k + i] = T[i] + by + (i % 3 == 0 ? 5.0 * (double)k : 0);
             corners_of_both[12 * k + i] = F[i] + 4 * (uint32_t)k;
         }
     }
@@ -42,20 +47,26 @@ static __attribute__((noinline)) size_t overwritten(void) {
     return DEPTH - left;
 }
 
-static __attribute__((noinline)) ozoravesh_made call(void) {
-    return ozoravesh_operate(2, a, 144, corners_of_both, 144, b, 144, corners_of_both, 144, points, 1536, corners, 3072, origins, 1024);
+static __attribute__((noinline)) ozoravesh_made call(size_t many) {
+    return ozoravesh_operate(2, a, 12 * many, corners_of_both, 12 * many, b, 12 * many, corners_of_both, 12 * many, points, 3 * 8192,
+        corners, 3 * 16384, origins, 16384);
 }
 
-int main(void) {
-    row(a, 0);
-    row(b, 1);
+static int measure(size_t many, const char *what) {
     paint();
-    ozoravesh_made made = call();
+    ozoravesh_made made = call(many);
     size_t bytes = overwritten();
     if (made.answer.number != 0) {
         printf("stack: the operation was refused\n");
         return 1;
     }
-    printf("stack: an operation took %lu bytes\n", (unsigned long)bytes);
+    printf("stack: an operation on solids of %lu vertices took %lu bytes (%s; %lu vertices made)\n", (unsigned long)(4 * many),
+        (unsigned long)bytes, what, (unsigned long)made.vertices);
     return 0;
+}
+
+int main(void) {
+    needles(a, 0, 0);
+    needles(b, 1, 0.03125);
+    return measure(4, "the short list of crossings") | measure(MOST, "the long one too");
 }

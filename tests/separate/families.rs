@@ -2,6 +2,7 @@
 
 mod bodies;
 mod files;
+mod nearby;
 mod numbers;
 mod pairs;
 mod random;
@@ -24,7 +25,7 @@ pub struct Family {
 }
 
 /// Every family; what each is for stands at its maker.
-pub const FAMILIES: [Family; 28] = [
+pub const FAMILIES: [Family; 30] = [
     Family { name: "ties", make: |r, _| asked(r, pairs::ties) },
     Family { name: "boxes", make: |r, _| asked(r, pairs::boxes) },
     Family { name: "zeros", make: |r, _| asked(r, pairs::signed_zeros) },
@@ -38,6 +39,8 @@ pub const FAMILIES: [Family; 28] = [
     Family { name: "empty", make: |r, _| asked(r, pairs::empty) },
     Family { name: "slivers", make: |r, _| asked(r, tight::slivers) },
     Family { name: "incident", make: |r, _| asked(r, tight::incident) },
+    Family { name: "apart", make: |r, _| asked(r, nearby::apart) },
+    Family { name: "crossed", make: |r, _| asked(r, rods::crossed) },
     Family { name: "again", make: |r, _| asked(r, pairs::again) },
     Family { name: "largest", make: largest },
     Family { name: "contains", make: contains },

@@ -3,7 +3,7 @@ use crossings::Edge;
 ghost use mathlib.Core.Path.{_≡_};
 ghost use mathlib.Core.List.{[]};
 ghost use Prim.Native.Nat.{_+_, _*_, _<_, _≤_};
-ghost use lib.ListN.{length, set};
+ghost use lib.ListN.{length};
 ghost use Rattle.solids.specs.Solids as So;
 ghost use Rattle.solids.specs.Table as Ta;
 ghost use Rattle.edges.specs.Words as Wo;
@@ -25,15 +25,6 @@ fn joins(table: &[u16; 16384], corners: &[u32], p: u32, q: u32) -> bool
     }
 }
 
-// Stores where there is room.
-fn store(list: &mut [u32], at: usize, v: u32)
-    ensures { λ r. ⌜ now (list .exit) ≡ set (now (list .entry)) at v ⌝ }
-{
-    if at < list.len() {
-        list[at] = v;
-    }
-}
-
 // The pair p, q, if it is an edge, behind those that are listed.
 fn put_edge(
     table: &[u16; 16384],
@@ -41,7 +32,7 @@ fn put_edge(
     n: u32,
     p: u32,
     q: u32,
-    ends: &mut [u32; 768],
+    ends: &mut [u32],
     numbers: &mut [u16; 16384],
     k: usize,
 ) -> usize
@@ -50,8 +41,8 @@ fn put_edge(
     ensures { λ r. ⌜ Wo.Listed (Wo.edges-seen (now (corners .entry)) n p (q + 1)) (now (ends .exit)) (now (numbers .exit)) r ⌝ }
 {
     if joins(table, corners, p, q) {
-        store(ends, 2 * k, p);
-        store(ends, 2 * k + 1, q);
+        lists::store(ends, 2 * k, p);
+        lists::store(ends, 2 * k + 1, q);
         let at = tally::place(p, q);
         numbers[at] = k as u16;
         return k + 1;
@@ -65,7 +56,7 @@ fn put_row(
     corners: &[u32],
     n: u32,
     p: u32,
-    ends: &mut [u32; 768],
+    ends: &mut [u32],
     numbers: &mut [u16; 16384],
     k: usize,
 ) -> usize
@@ -87,7 +78,7 @@ pub fn list_edges(
     table: &[u16; 16384],
     corners: &[u32],
     n: u32,
-    ends: &mut [u32; 768],
+    ends: &mut [u32],
     numbers: &mut [u16; 16384],
 ) -> usize
     requires { ⌜ (n ≤ 128) × Ta.Tallied (now table) (So.half-edges (So.solid [] (now corners))) ⌝ }
@@ -104,7 +95,7 @@ pub fn list_edges(
 }
 
 // Edge number e, from its two ends in the list.
-pub fn edge_at(points: &[f64], ends: &[u32; 768], corners: &[u32], e: usize) -> Edge
+pub fn edge_at(points: &[f64], ends: &[u32], corners: &[u32], e: usize) -> Edge
     requires { ⌜ Wo.Ready (now points) (now corners) (now ends) × (e < length (So.edges (So.solid (now points) (now corners)))) ⌝ }
     ensures { λ r. ⌜ r ≡ So.edge (So.solid (now (points .entry)) (now (corners .entry))) (Wo.edge-numbered (So.solid (now (points .entry)) (now (corners .entry))) e) ⌝ }
 {

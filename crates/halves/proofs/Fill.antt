@@ -21,8 +21,8 @@ use Rattle.solids.proofs.Admitted.{Passed, Between}
 use Rattle.solids.proofs.Shut.{mem-edges, between}
 use Rattle.edges.specs.Words.{Listed, edges-of}
 use Rattle.edges.proofs.Edges.{listed-own}
-use Rattle.tables.specs.Filled.{edge-number, half-numbers, half-list, halves}
-use Rattle.tables.proofs.Halves.{length-half-list, length-halves}
+use Rattle.layouts.specs.Halves.{edge-number, half-numbers, half-list, halves}
+use Rattle.layouts.proofs.Lengths.{length-half-list, length-halves}
 use Rattle.halves.specs.Words.{three, threes}
 
 -- ---- one half-edge: k is its edge's place, and e is twice the number there

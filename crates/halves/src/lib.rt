@@ -1,4 +1,6 @@
-// The list of a solid's half-edges, from the table in which its edges' numbers stand.
+// The list of a solid's half-edges, from the table in which its edges' numbers stand; and two solids made ready.
+pub mod sides;
+
 ghost use mathlib.Core.Path.{_≡_};
 ghost use mathlib.Core.List.{[]};
 ghost use Prim.Native.Nat.{_+_, _*_, _/_, _<_, _≤_};

@@ -1,7 +1,7 @@
 // The gathered ends of one composite edge, joined into pieces. A piece is two numbers of a list: where it starts and where it ends.
 use results::End;
 ghost use mathlib.Core.Path.{_≡_};
-ghost use Prim.Native.Nat.{_+_, _<_, _≤_};
+ghost use Prim.Native.Nat.{_+_, _*_, _<_, _≤_, min};
 ghost use lib.ListN.{length, take};
 ghost use Rattle.sums.specs.Lists.{above, below};
 ghost use Rattle.results.specs.Pieces.{pieces};
@@ -44,7 +44,7 @@ fn put_times(list: &mut [u32], side: usize, k: usize, n: u32, v: u32) -> usize
 }
 
 // "below 0 it is that many starts"
-fn starts_of(count: i32) -> u32
+pub fn starts_of(count: i32) -> u32
     ensures { λ r. ⌜ r ≡ below count ⌝ }
 {
     if count < 0 {
@@ -56,7 +56,7 @@ fn starts_of(count: i32) -> u32
 }
 
 // "a count n above 0 is n ends"
-fn stops_of(count: i32) -> u32
+pub fn stops_of(count: i32) -> u32
     ensures { λ r. ⌜ r ≡ above count ⌝ }
 {
     if count < 0 {
@@ -98,6 +98,19 @@ pub fn join_first(all: [End; 258], n: usize, list: &mut [u32]) -> Counts
     join(&all[..n], list)
 }
 
+// Behind the pieces, of which there are as many as the side has that has fewer.
+fn next_place(c: Counts, at: usize) -> usize
+    requires { ⌜ at + 2 * min (c .starts) (c .stops) ≤ 4611686018427387904 ⌝ }
+    ensures { λ r. ⌜ r ≡ at + 2 * min (c .starts) (c .stops) ⌝ }
+{
+    let s = c.starts;
+    let e = c.stops;
+    if s < e {
+        return at + 2 * s;
+    }
+    at + 2 * e
+}
+
 // The pieces of the first n ends go behind the first `at` numbers of the list. An order of the ends along the edge comes in here: the array is put in
 // that order before it is lent, and the two functions above stay as they are.
 pub fn join_at(all: [End; 258], n: usize, list: &mut [u32], at: usize) -> usize
@@ -106,10 +119,22 @@ pub fn join_at(all: [End; 258], n: usize, list: &mut [u32], at: usize) -> usize
     ensures { λ r. ⌜ Behind (flat (pieces (take n all))) (now (list .entry)) at (now (list .exit)) r ⌝ }
 {
     let c = join_first(all, n, &mut list[at..]);
-    let s = c.starts;
-    let e = c.stops;
-    if s < e {
-        return at + 2 * s;
-    }
-    at + 2 * e
+    next_place(c, at)
+}
+
+// The same two for at most 8 ends, as almost every composite edge has: a short array is lent.
+pub fn join_few(all: [End; 8], n: usize, list: &mut [u32]) -> Counts
+    requires { ⌜ n ≤ 8 ⌝ }
+    ensures { λ r. ⌜ (now (list .exit) ≡ P.joined (take n all) (now (list .entry)) .0) × (r ≡ P.joined (take n all) (now (list .entry)) .1) ⌝ }
+{
+    join(&all[..n], list)
+}
+
+pub fn join_few_at(all: [End; 8], n: usize, list: &mut [u32], at: usize) -> usize
+    requires { ⌜ n ≤ 8 ⌝ }
+    requires { ⌜ at + length (flat (pieces (take n all))) ≤ length (now list) ⌝ }
+    ensures { λ r. ⌜ Behind (flat (pieces (take n all))) (now (list .entry)) at (now (list .exit)) r ⌝ }
+{
+    let c = join_few(all, n, &mut list[at..]);
+    next_place(c, at)
 }

@@ -1,2 +1,3 @@
 pub mod Rank
+pub mod Following
 pub mod Laid

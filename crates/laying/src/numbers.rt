@@ -1,9 +1,12 @@
 // A vertex's number in the result is how many kept ones are listed before it.
 ghost use mathlib.Core.Path.{_≡_};
-ghost use Prim.Native.Nat.{_≤_};
-ghost use lib.ListN.{length};
+ghost use mathlib.Core.List.{List};
+ghost use Prim.Native.Nat.{ℕ, _+_, _<_, _≤_};
+ghost use lib.IntN.{ℤ};
+ghost use lib.ListN.{length, getD};
 ghost use Rattle.sums.specs.Lists.{nonzero};
-ghost use Rattle.laying.specs.Rank.{rank, ranks};
+ghost use Rattle.laying.specs.Rank.{rank};
+ghost use Rattle.laying.specs.Following.{Follows, Ranked};
 
 fn kept(inclusion: i16) -> bool
     ensures { λ r. ⌜ r ≡ nonzero inclusion ⌝ }
@@ -11,18 +14,20 @@ fn kept(inclusion: i16) -> bool
     inclusion != 0
 }
 
-// Writes each slot's number, and answers how many are kept.
-pub fn number(inc: &[i16], num: &mut [u32]) -> usize
-    requires { ⌜ length (now num) ≡ length (now inc) ⌝ }
-    requires { ⌜ length (now inc) ≤ 1048576 ⌝ }
-    ensures numbers { λ r. ⌜ now (num .exit) ≡ ranks (now (inc .entry)) ⌝ }
-    ensures count { λ r. ⌜ r ≡ rank (now (inc .entry)) (length (now (inc .entry))) ⌝ }
+// Numbers for the kept ones of `many` vertices, A's or B's, from place `from` of the lists on; the first is `start`. Answers the next. It holds for
+// every table that has these inclusions from some slot on.
+pub fn number(inc: &[i16], num: &mut [u32], from: usize, many: usize, start: usize) -> usize
+    requires { ⌜ (from + many ≤ length (now inc)) × (from + many ≤ length (now num)) × (from + many ≤ 65536) × (start ≤ 1048576) ⌝ }
+    ensures { λ r. ⌜ ((t : List ℤ) (slot : ℕ) → Follows t (now (inc .entry)) slot from many → start ≡ rank t slot → Ranked t (now (num .exit)) slot from many r) ⌝ }
+    ensures before { λ _. ⌜ ((i : ℕ) → i < from → getD (now (num .exit)) i 0 ≡ getD (now (num .entry)) i 0) ⌝ }
+    ensures few { λ r. ⌜ r ≤ start + many ⌝ }
+    ensures same { λ _. ⌜ length (now (num .exit)) ≡ length (now (num .entry)) ⌝ }
 {
-    let mut k: usize = 0;
+    let mut k = start;
     let mut i = 0;
-    while i < inc.len() {
-        num[i] = k as u32;
-        let c = inc[i];
+    while i < many {
+        num[from + i] = k as u32;
+        let c = inc[from + i];
         if kept(c) {
             k += 1;
         }

@@ -1,2 +1,3 @@
-pub mod Prepared
+pub mod Listed
+pub mod Numbered
 pub mod Results

@@ -1,0 +1,2 @@
+pub mod Attempted
+pub mod Numbered

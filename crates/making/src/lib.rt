@@ -1,64 +1,30 @@
-// The result of an operation on two admitted solids: everything is counted, then 8 is checked, then the lent lists are written.
-pub mod sides;
+// The result of an operation on two admitted solids: its crossings are found, everything is counted, then 8 is checked, then the lent lists are
+// written.
+mod vertices;
 
-use building::Sizes;
+use found::Listed;
+use layouts::Plan;
 use results::Made;
 use results::Operation;
 use solids::Answer;
 ghost use mathlib.Core.Path.{_≡_};
-ghost use mathlib.Core.Bool.{_||_};
-ghost use Prim.Native.Nat.{_+_, _*_, _≤_};
+ghost use mathlib.Core.Bool.{true, _||_};
+ghost use Prim.Native.Nat.{_*_, _≤_};
 ghost use lib.Dec.{ltb};
-ghost use lib.ListN.{length, take};
-ghost use Rattle.sums.specs.Lists.{keep, nonzero, onto};
+ghost use lib.IntN.{natAbs};
+ghost use lib.ListN.{length};
+ghost use Rattle.sums.specs.Lists.{nonzero};
 ghost use Rattle.solids.specs.Solids as So;
-ghost use Rattle.solids.specs.declared.Verdict.the-variants.{Accepted};
 ghost use Rattle.solids.specs.Admission as Ad;
-ghost use Rattle.results.specs.Triangles as Tr;
+ghost use Rattle.solids.specs.declared.Verdict.the-variants.{Accepted};
+ghost use Rattle.results.specs.Inclusion as In;
 ghost use Rattle.results.specs.Operation as Op;
-ghost use Rattle.laying.specs.Laid.{Laid};
-ghost use Rattle.building.specs.Table as Ta;
-ghost use Rattle.tables.specs.Filled as Fi;
-ghost use Rattle.edges.specs.Words as Ed;
-ghost use Rattle.slots.specs.Kept as Ke;
+ghost use Rattle.making.specs.Attempted as At;
 
-// The table: each slot's inclusion and its number. Answers how many slots are kept.
-fn tables(
-    op: Operation,
-    z: Sizes,
-    ap: &[f64],
-    ac: &[u32],
-    ae: &[u32; 768],
-    bp: &[f64],
-    bc: &[u32],
-    be: &[u32; 768],
-    halves: &[u32],
-    inc: &mut [i16],
-    num: &mut [u32],
-) -> usize
-    requires { ⌜ (Ad.admission (So.solid (now ap) (now ac)) ≡ Accepted) × (Ad.admission (So.solid (now bp) (now bc)) ≡ Accepted) ⌝ }
-    requires { ⌜ Ed.Ready (now ap) (now ac) (now ae) × Ed.Ready (now bp) (now bc) (now be) ⌝ }
-    requires { ⌜ (z ≡ Fi.sizes (So.solid (now ap) (now ac)) (So.solid (now bp) (now bc))) × Ta.Sized z × (length (now inc) ≡ Ta.total z) × (length (now num) ≡ Ta.total z) ⌝ }
-    requires { ⌜ now halves ≡ Fi.halves (So.solid (now ap) (now ac)) (So.solid (now bp) (now bc)) ⌝ }
-    ensures inclusions { λ r. ⌜ now (inc .exit) ≡ Fi.inclusions op (So.solid (now (ap .entry)) (now (ac .entry))) (So.solid (now (bp .entry)) (now (bc .entry))) ⌝ }
-    ensures numbers { λ r. ⌜ now (num .exit) ≡ Fi.numbers op (So.solid (now (ap .entry)) (now (ac .entry))) (So.solid (now (bp .entry)) (now (bc .entry))) ⌝ }
-    ensures count { λ r. ⌜ 3 * r ≡ length (Tr.result op (So.solid (now (ap .entry)) (now (ac .entry))) (So.solid (now (bp .entry)) (now (bc .entry))) .points) ⌝ }
-    ensures small { λ r. ⌜ r ≤ 196864 ⌝ }
-{
-    shadows::inclusions::fill(op, z, ap, ac, ae, bp, bc, be, halves, inc);
-    laying::numbers::number(inc, num)
-}
-
-// How many triangles there are: they are put where there is no room for any.
-fn measure(inc: &[i16], num: &[u32], halves: &[u32], z: Sizes, list: &mut [u32]) -> usize
-    requires { ⌜ Ta.Good (Ta.table (now inc) (now num)) (now halves) z × (6150 ≤ length (now list)) ⌝ }
-    ensures { λ r. ⌜ r ≡ length (Ta.triangles (Ta.table (now (inc .entry)) (now (num .entry))) (now (halves .entry)) z) ⌝ }
-    ensures small { λ r. ⌜ r ≤ 1574400 ⌝ }
-    ensures same { λ r. ⌜ length (now (list .exit)) ≡ length (now (list .entry)) ⌝ }
-{
-    let mut corners = [0u32; 1];
-    let mut origins = [0u32; 1];
-    building::triangles::put_triangles(inc, num, halves, z, list, &mut corners, &mut origins)
+// `Full`: there are more crossings than the list has room for.
+pub enum Tried {
+    Done(Made),
+    Full,
 }
 
 // 8: "a lent list is too short for the answer", of n vertices and m triangles.
@@ -85,125 +51,77 @@ pub fn refused(answer: Answer) -> Made
     }
 }
 
-// The result, into lists with room for it. Answers how many triangles it has.
-fn lay(
-    z: Sizes,
-    ap: &[f64],
-    ac: &[u32],
-    ae: &[u32; 768],
-    bp: &[f64],
-    bc: &[u32],
-    be: &[u32; 768],
-    inc: &[i16],
-    num: &[u32],
-    halves: &[u32],
-    list: &mut [u32],
-    points: &mut [f64],
-    corners: &mut [u32],
-    origins: &mut [u32],
-) -> usize
-    requires { ⌜ Ed.Ready (now ap) (now ac) (now ae) × Ed.Ready (now bp) (now bc) (now be) ⌝ }
-    requires { ⌜ (z ≡ Fi.sizes (So.solid (now ap) (now ac)) (So.solid (now bp) (now bc))) × Ta.Sized z × (length (now inc) ≡ Ta.total z) ⌝ }
-    requires { ⌜ 3 * length (keep nonzero (now inc)) ≤ length (now points) ⌝ }
-    requires { ⌜ Ta.Good (Ta.table (now inc) (now num)) (now halves) z × (6150 ≤ length (now list)) ⌝ }
-    ensures points { λ r. ⌜ now (points .exit) ≡ onto (Ke.points-kept (So.solid (now (ap .entry)) (now (ac .entry))) (So.solid (now (bp .entry)) (now (bc .entry))) z (now (inc .entry))) (now (points .entry)) ⌝ }
-    ensures triangles { λ r. ⌜ Laid (Ta.triangles (Ta.table (now (inc .entry)) (now (num .entry))) (now (halves .entry)) z) (now (corners .entry)) (now (origins .entry)) 0 (now (corners .exit)) (now (origins .exit)) r ⌝ }
+// cI: "union -1, intersection 1, difference -1".
+fn sign(op: Operation) -> i32
+    ensures { λ r. ⌜ r ≡ In.cI op ⌝ }
+    ensures small { λ r. ⌜ (natAbs r ≤ 1) × (nonzero r ≡ true) ⌝ }
 {
-    slots::places::put_points(inc, z, ap, ac, ae, bp, bc, be, points);
-    building::triangles::put_triangles(inc, num, halves, z, list, corners, origins)
+    op.numbers().c_i
 }
 
-// The operation on admitted solids, with a table that has a place for each slot.
-pub fn make(
+// The operation on admitted solids, with a list for their crossings.
+pub fn attempt(
     op: Operation,
-    z: Sizes,
     ap: &[f64],
     ac: &[u32],
-    ae: &[u32; 768],
     bp: &[f64],
     bc: &[u32],
-    be: &[u32; 768],
-    halves: &[u32],
-    inc: &mut [i16],
-    num: &mut [u32],
+    crossed: &mut [u32],
     points: &mut [f64],
     corners: &mut [u32],
     origins: &mut [u32],
-) -> Made
-    requires { ⌜ (Ad.admission (So.solid (now ap) (now ac)) ≡ Accepted) × (Ad.admission (So.solid (now bp) (now bc)) ≡ Accepted) ⌝ }
-    requires { ⌜ Ed.Ready (now ap) (now ac) (now ae) × Ed.Ready (now bp) (now bc) (now be) ⌝ }
-    requires { ⌜ (z ≡ Fi.sizes (So.solid (now ap) (now ac)) (So.solid (now bp) (now bc))) × (length (now inc) ≡ Ta.total z) × (length (now num) ≡ Ta.total z) ⌝ }
-    requires { ⌜ now halves ≡ Fi.halves (So.solid (now ap) (now ac)) (So.solid (now bp) (now bc)) ⌝ }
-    ensures { λ r. ⌜ Op.called r (Op.lists (now (points .exit)) (now (corners .exit)) (now (origins .exit))) ≡ Op.operate op (So.solid (now (ap .entry)) (now (ac .entry))) (So.solid (now (bp .entry)) (now (bc .entry))) (Op.lists (now (points .entry)) (now (corners .entry)) (now (origins .entry))) ⌝ }
+) -> Tried
+    requires { ⌜ (Ad.admission (So.solid (now ap) (now ac)) ≡ Accepted) × (Ad.admission (So.solid (now bp) (now bc)) ≡ Accepted) × (length (now crossed) ≤ 262144) ⌝ }
+    ensures { λ r. ⌜ At.Attempted op (So.solid (now (ap .entry)) (now (ac .entry))) (So.solid (now (bp .entry)) (now (bc .entry))) (length (now (crossed .entry))) (Op.lists (now (points .entry)) (now (corners .entry)) (now (origins .entry))) r (Op.lists (now (points .exit)) (now (corners .exit)) (now (origins .exit))) ⌝ }
 {
-    let n = tables(op, z, ap, ac, ae, bp, bc, be, halves, inc, num);
-    let mut list = [0u32; 6150];
-    let m = measure(inc, num, halves, z, &mut list);
-    if too_short(points.len(), corners.len(), origins.len(), n, m) {
-        return refused(Answer { number: 8 });
+    let mut ends = [0u32; 1536];
+    let mut all_halves = [0u32; 4608];
+    let z = halves::sides::both(ap, ac, bp, bc, &mut ends, &mut all_halves);
+    let mut first = [0u32; 641];
+    let Listed::Found(total) = found::find(sign(op), z, ap, ac, bp, bc, &ends, &mut first, crossed)
+    else {
+        return Tried::Full;
+    };
+    let mut inc = [0i16; 256];
+    vertices::include(op, z, ap, ac, bp, bc, &ends, &mut inc);
+    let mut num = [0u32; 256];
+    let n = vertices::number(z, total, &inc, &mut num);
+    let plan = Plan {
+        sizes: z,
+        base: n.base,
+    };
+    let nine = 9 * (z.fa + z.fb);
+    let mut marks = [0u64; 5120];
+    marking::fill::fill(&first, crossed, &all_halves[..nine], z, &mut marks);
+    let m = walking::count::count_triangles(
+        &inc,
+        &num,
+        &first,
+        crossed,
+        &all_halves[..nine],
+        plan,
+        &marks,
+    );
+    if too_short(points.len(), corners.len(), origins.len(), n.all, m) {
+        return Tried::Done(refused(Answer { number: 8 }));
     }
-    lay(
-        z,
-        ap,
-        ac,
-        ae,
-        bp,
-        bc,
-        be,
-        inc,
-        num,
-        halves,
+    placing::put_points(z, ap, ac, bp, bc, &ends, &inc, &first, crossed, points);
+    let mut list = [0u32; 6150];
+    walking::triangles::put_triangles(
+        &inc,
+        &num,
+        &first,
+        crossed,
+        &all_halves[..nine],
+        plan,
+        &marks,
         &mut list,
-        points,
         corners,
         origins,
     );
-    Made {
+    Tried::Done(Made {
         answer: Answer { number: 0 },
-        vertices: n,
+        vertices: n.all,
         triangles: m,
-    }
-}
-
-// The same in the fronts of lists that are long enough.
-pub fn make_in_fronts(
-    op: Operation,
-    z: Sizes,
-    ap: &[f64],
-    ac: &[u32],
-    ae: &[u32; 768],
-    bp: &[f64],
-    bc: &[u32],
-    be: &[u32; 768],
-    halves: &[u32],
-    inc: &mut [i16],
-    num: &mut [u32],
-    points: &mut [f64],
-    corners: &mut [u32],
-    origins: &mut [u32],
-) -> Made
-    requires { ⌜ (Ad.admission (So.solid (now ap) (now ac)) ≡ Accepted) × (Ad.admission (So.solid (now bp) (now bc)) ≡ Accepted) ⌝ }
-    requires { ⌜ Ed.Ready (now ap) (now ac) (now ae) × Ed.Ready (now bp) (now bc) (now be) ⌝ }
-    requires { ⌜ (z ≡ Fi.sizes (So.solid (now ap) (now ac)) (So.solid (now bp) (now bc))) × (Ta.total z ≤ length (now inc)) × (Ta.total z ≤ length (now num)) ⌝ }
-    requires { ⌜ (take (9 * (z .fa + z .fb)) (now halves) ≡ Fi.halves (So.solid (now ap) (now ac)) (So.solid (now bp) (now bc))) × (4608 ≤ length (now halves)) ⌝ }
-    ensures { λ r. ⌜ Op.called r (Op.lists (now (points .exit)) (now (corners .exit)) (now (origins .exit))) ≡ Op.operate op (So.solid (now (ap .entry)) (now (ac .entry))) (So.solid (now (bp .entry)) (now (bc .entry))) (Op.lists (now (points .entry)) (now (corners .entry)) (now (origins .entry))) ⌝ }
-{
-    let of_both = 9 * (z.fa + z.fb);
-    let n = sides::slots(z);
-    make(
-        op,
-        z,
-        ap,
-        ac,
-        ae,
-        bp,
-        bc,
-        be,
-        &halves[..of_both],
-        &mut inc[..n],
-        &mut num[..n],
-        points,
-        corners,
-        origins,
-    )
+    })
 }

@@ -26,7 +26,7 @@ module _ (inc : Key → ℤ) (w : SignedEnd → ℤ) (odd : (e : SignedEnd) → 
   abbrev W : Key → ℤ
   W k = w (plain inc k)
 
-  along-sum : (start end : Key) (ks : List Key) → sumOf w (ends-along inc start end ks) ≡ (W end -ℤ W start) +ℤ sumOf W ks
+  pub along-sum : (start end : Key) (ks : List Key) → sumOf w (ends-along inc start end ks) ≡ (W end -ℤ W start) +ℤ sumOf W ks
   unfolding sumOf
   along-sum start end ks = ap₂ (λ x y. x +ℤ (W end +ℤ y)) (odd (plain inc start)) (sum-map w (plain inc) ks) ∙ law (W start) (W end) (sumOf W ks)
     where
@@ -40,7 +40,7 @@ module _ (inc : Key → ℤ) (w : SignedEnd → ℤ) (odd : (e : SignedEnd) → 
       go true = refl
       go false = odd (plain inc k)
 
-  pair-sum : (a b : Solid) (f g : ℕ) → sumOf w (ends-of-fAfB inc a b f g) ≡ around b (λ e. W (fAeB f e)) g -ℤ around a (λ e. W (eAfB e g)) f
+  pub pair-sum : (a b : Solid) (f g : ℕ) → sumOf w (ends-of-fAfB inc a b f g) ≡ around b (λ e. W (fAeB f e)) g -ℤ around a (λ e. W (eAfB e g)) f
   unfolding ends-of-fAfB
   pair-sum a b f g =
       sum-append w (map (λ h. minus (signed-as inc h (eAfB (edge-of h) g))) (facet-half-edges a f)) (map (λ h. signed-as inc h (fAeB f (edge-of h))) (facet-half-edges b g))

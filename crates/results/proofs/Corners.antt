@@ -43,27 +43,27 @@ turned-between : (n : ℕ) (h : Half) → Between n h → Between n (turned h)
 turned-between n h s = record { start = s .end; end = s .start; apart = λ e. s .apart (sym e) }
 
 module _ (inc : Key → ℤ) (a b : Solid) where
-  abbrev num : Key → ℕ
+  abbrev pub num : Key → ℕ
   num k = number inc (keys a b) k
 
   abbrev pub vertex-count : ℕ
   vertex-count = length (kept inc (keys a b))
 
-  abbrev Listed : Key → Type 0
+  abbrev pub Listed : Key → Type 0
   Listed k = List·Memᴰ k (keys a b)
 
-  abbrev Kept : Key → Type 0
+  abbrev pub Kept : Key → Type 0
   Kept k = Listed k × (nonzero (inc k) ≡ true)
 
   -- what an end asks of its key
-  abbrev Fits : SignedEnd → Type 0
+  abbrev pub Fits : SignedEnd → Type 0
   Fits e = e .count ≢ pos 0 → Kept (e .key)
 
-  abbrev Step : Half → Type 0
+  abbrev pub Step : Half → Type 0
   Step h = Between vertex-count h
 
   -- kept keys have different numbers, below the vertex count
-  good : (k l : Key) → Kept k → Kept l → k ≢ l → Step (num k, num l)
+  pub good : (k l : Key) → Kept k → Kept l → k ≢ l → Step (num k, num l)
   unfolding number kept
   good k l u v n =
       record {
@@ -91,41 +91,46 @@ module _ (inc : Key → ℤ) (a b : Solid) where
   plain-kept : (k : Key) → Listed k → inc k ≢ pos 0 → Kept k
   plain-kept k m n = (m, nonzero-of (inc k) n)
 
+  -- different keys, each kept if it has an end
+  abbrev pub Sound : List SignedEnd → Type 0
+  Sound es = Distinct (map (λ (e : SignedEnd). e .key) es) × All Fits es
+
   -- an edge: its two ends, and crossings with the other solid's facets
-  along-steps :
+  along-sound :
       (start end : Key) (F : ℕ → Key) (n : ℕ) → start ≢ end → ((o : ℕ) → start ≢ F o) → ((o : ℕ) → end ≢ F o) → ((o p : ℕ) → F o ≡ F p → o ≡ p) → Listed start → Listed end
-      → ((o : ℕ) → o < n → Listed (F o)) → All Step (joined inc num a b (ends-along inc start end (map F (upTo n))))
-  along-steps start end F n se sF eF inj ms me mF =
-      joined-steps (ends-along inc start end (map F (upTo n)))
-      (subst (λ ks. Distinct (start ∷ end ∷ ks)) (sym (keys-plain (map F (upTo n)))) ((se, off start sF), (off end eF, distinct-map F inj (upTo n) (distinct-upTo n)))) (
-        (λ n. plain-kept start ms (λ e. n (ap negℤ e))),
-        (
-          plain-kept end me,
-          all-map-of Fits (plain inc) (map F (upTo n))
-              (all-map-of (λ k. inc k ≢ pos 0 → Kept k) F (upTo n) (all-upTo (λ o. inc (F o) ≢ pos 0 → Kept (F o)) n (λ o i. plain-kept (F o) (mF o i)))),
-        ),
-      )
+      → ((o : ℕ) → o < n → Listed (F o)) → Sound (ends-along inc start end (map F (upTo n)))
+  along-sound start end F n se sF eF inj ms me mF = (
+    subst (λ ks. Distinct (start ∷ end ∷ ks)) (sym (keys-plain (map F (upTo n)))) ((se, off start sF), (off end eF, distinct-map F inj (upTo n) (distinct-upTo n))),
+    (
+      (λ n. plain-kept start ms (λ e. n (ap negℤ e))),
+      (
+        plain-kept end me,
+        all-map-of Fits (plain inc) (map F (upTo n))
+            (all-map-of (λ k. inc k ≢ pos 0 → Kept k) F (upTo n) (all-upTo (λ o. inc (F o) ≢ pos 0 → Kept (F o)) n (λ o i. plain-kept (F o) (mF o i)))),
+      ),
+    ),
+  )
     where
       off : (k : Key) → ((o : ℕ) → k ≢ F o) → All (λ l. k ≢ l) (map F (upTo n))
       off k h = all-map-of (λ l. k ≢ l) F (upTo n) (all-of (λ o. k ≢ F o) (upTo n) (λ o m. h o))
 
   -- two facets: the edges of each with the other
-  pair-steps :
+  pair-sound :
       (f g : ℕ) → Distinct (map edge-of (facet-half-edges a f)) → Distinct (map edge-of (facet-half-edges b g))
       → All (λ h. Listed (eAfB (edge-of h) g)) (facet-half-edges a f) → All (λ h. Listed (fAeB f (edge-of h))) (facet-half-edges b g)
-      → All Step (pieces-of-fAfB inc num a b f g)
+      → Sound (ends-of-fAfB inc a b f g)
   unfolding ends-of-fAfB
-  pair-steps f g da db ma mb =
-      joined-steps (ends-of-fAfB inc a b f g)
-      (distinct-++ (map (λ e. eAfB e g) (map edge-of (facet-half-edges a f))) (map (fAeB f) (map edge-of (facet-half-edges b g)))
-      (distinct-map (λ e. eAfB e g) (λ x y q. cc) (map edge-of (facet-half-edges a f)) da)
-      (distinct-map (fAeB f) (λ x y q. cc) (map edge-of (facet-half-edges b g)) db)
-      (apart-maps (λ e. eAfB e g) (fAeB f) (map edge-of (facet-half-edges a f)) (map edge-of (facet-half-edges b g)) (λ x y q. differ (cc))))
-      (all-++ Fits (map (λ h. minus (signed-as inc h (eAfB (edge-of h) g))) (facet-half-edges a f)) (map (λ h. signed-as inc h (fAeB f (edge-of h))) (facet-half-edges b g))
-      (all-map-of Fits (λ h. minus (signed-as inc h (eAfB (edge-of h) g))) (facet-half-edges a f)
-      (all-mono (λ h. Listed (eAfB (edge-of h) g)) (λ h. Fits (minus (signed-as inc h (eAfB (edge-of h) g)))) (facet-half-edges a f) (λ h m n. plain-kept (eAfB (edge-of h) g) m (signed-ne h (inc (eAfB (edge-of h) g)) (λ e. n (ap negℤ e)))) ma))
-      (all-map-of Fits (λ h. signed-as inc h (fAeB f (edge-of h))) (facet-half-edges b g)
-      (all-mono (λ h. Listed (fAeB f (edge-of h))) (λ h. Fits (signed-as inc h (fAeB f (edge-of h)))) (facet-half-edges b g) (λ h m n. plain-kept (fAeB f (edge-of h)) m (signed-ne h (inc (fAeB f (edge-of h))) n)) mb)))
+  pair-sound f g da db ma mb = (
+    distinct-++ (map (λ e. eAfB e g) (map edge-of (facet-half-edges a f))) (map (fAeB f) (map edge-of (facet-half-edges b g)))
+        (distinct-map (λ e. eAfB e g) (λ x y q. cc) (map edge-of (facet-half-edges a f)) da)
+        (distinct-map (fAeB f) (λ x y q. cc) (map edge-of (facet-half-edges b g)) db)
+        (apart-maps (λ e. eAfB e g) (fAeB f) (map edge-of (facet-half-edges a f)) (map edge-of (facet-half-edges b g)) (λ x y q. differ (cc))),
+    all-++ Fits (map (λ h. minus (signed-as inc h (eAfB (edge-of h) g))) (facet-half-edges a f)) (map (λ h. signed-as inc h (fAeB f (edge-of h))) (facet-half-edges b g))
+        (all-map-of Fits (λ h. minus (signed-as inc h (eAfB (edge-of h) g))) (facet-half-edges a f)
+        (all-mono (λ h. Listed (eAfB (edge-of h) g)) (λ h. Fits (minus (signed-as inc h (eAfB (edge-of h) g)))) (facet-half-edges a f) (λ h m n. plain-kept (eAfB (edge-of h) g) m (signed-ne h (inc (eAfB (edge-of h) g)) (λ e. n (ap negℤ e)))) ma))
+        (all-map-of Fits (λ h. signed-as inc h (fAeB f (edge-of h))) (facet-half-edges b g)
+        (all-mono (λ h. Listed (fAeB f (edge-of h))) (λ h. Fits (signed-as inc h (fAeB f (edge-of h)))) (facet-half-edges b g) (λ h m n. plain-kept (fAeB f (edge-of h)) m (signed-ne h (inc (fAeB f (edge-of h))) n)) mb)),
+  )
 
   -- ---- boundaries of admitted solids
   turned-steps : (ps : List Half) → All Step ps → All Step (map turned ps)
@@ -148,25 +153,34 @@ module _ (inc : Key → ℤ) (a b : Solid) where
   row-steps n p each = all-flatMap Step p (upTo n) (all-upTo (λ o. All Step (p o)) n each)
 
   module _ (passed-a : Passed a) (passed-b : Passed b) where
-    eA-steps : (e : Half) → List·Memᴰ e (edges a) → All Step (pieces-of-eA inc num a b e)
+    pub eA-sound : (e : Half) → List·Memᴰ e (edges a) → Sound (ends-of-eA inc b e)
     unfolding ends-of-eA
-    eA-steps e m =
+    eA-sound e m =
         let i = all-at (Is-edge a) m (all-edges a) in
-        along-steps (vA (e .0)) (vA (e .1)) (eAfB e) (facets b) (λ q. let z : e .0 ≡ e .1 = cc in let r = i .rises in omega arith) (λ o q. differ (cc)) (λ o q. differ (cc)) (λ o p q. cc)
+        along-sound (vA (e .0)) (vA (e .1)) (eAfB e) (facets b) (λ q. let z : e .0 ≡ e .1 = cc in let r = i .rises in omega arith) (λ o q. differ (cc)) (λ o q. differ (cc)) (λ o p q. cc)
         (mem-vA a b (e .0) (let r = i .rises in let s = i .below in omega arith)) (mem-vA a b (e .1) (i .below)) (λ o h. mem-eAfB a b e o m h)
 
-    eB-steps : (e : Half) → List·Memᴰ e (edges b) → All Step (pieces-of-eB inc num a b e)
+    pub eB-sound : (e : Half) → List·Memᴰ e (edges b) → Sound (ends-of-eB inc a e)
     unfolding ends-of-eB
-    eB-steps e m =
+    eB-sound e m =
         let i = all-at (Is-edge b) m (all-edges b) in
-        along-steps (vB (e .0)) (vB (e .1)) (λ f. fAeB f e) (facets a) (λ q. let z : e .0 ≡ e .1 = cc in let r = i .rises in omega arith) (λ o q. differ (cc)) (λ o q. differ (cc)) (λ o p q. cc)
+        along-sound (vB (e .0)) (vB (e .1)) (λ f. fAeB f e) (facets a) (λ q. let z : e .0 ≡ e .1 = cc in let r = i .rises in omega arith) (λ o q. differ (cc)) (λ o q. differ (cc)) (λ o p q. cc)
         (mem-vB a b (e .0) (let r = i .rises in let s = i .below in omega arith)) (mem-vB a b (e .1) (i .below)) (λ o h. mem-fAeB a b o e h m)
 
-    fAfB-steps : (f g : ℕ) → f < facets a → g < facets b → All Step (pieces-of-fAfB inc num a b f g)
-    fAfB-steps f g i j =
-        pair-steps f g (facet-edges-distinct a passed-a f i) (facet-edges-distinct b passed-b g j)
+    pub fAfB-sound : (f g : ℕ) → f < facets a → g < facets b → Sound (ends-of-fAfB inc a b f g)
+    fAfB-sound f g i j =
+        pair-sound f g (facet-edges-distinct a passed-a f i) (facet-edges-distinct b passed-b g j)
         (all-of (λ h. Listed (eAfB (edge-of h) g)) (facet-half-edges a f) (λ h m. mem-eAfB a b (edge-of h) g (facet-edges a passed-a f i m) j))
         (all-of (λ h. Listed (fAeB f (edge-of h))) (facet-half-edges b g) (λ h m. mem-fAeB a b f (edge-of h) i (facet-edges b passed-b g j m)))
+
+    eA-steps : (e : Half) → List·Memᴰ e (edges a) → All Step (pieces-of-eA inc num a b e)
+    eA-steps e m = let s = eA-sound e m in joined-steps (ends-of-eA inc b e) (s .0) (s .1)
+
+    eB-steps : (e : Half) → List·Memᴰ e (edges b) → All Step (pieces-of-eB inc num a b e)
+    eB-steps e m = let s = eB-sound e m in joined-steps (ends-of-eB inc a e) (s .0) (s .1)
+
+    fAfB-steps : (f g : ℕ) → f < facets a → g < facets b → All Step (pieces-of-fAfB inc num a b f g)
+    fAfB-steps f g i j = let s = fAfB-sound f g i j in joined-steps (ends-of-fAfB inc a b f g) (s .0) (s .1)
 
     boundary-A-steps : (f : ℕ) → f < facets a → All Step (boundary-A inc num a b f)
     unfolding boundary-A

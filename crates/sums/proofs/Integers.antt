@@ -5,7 +5,7 @@ use mathlib.Core.Logic.{_⊎_, inl, inr}
 use Prim.Native.Nat.{ℕ, zero, suc, _+_, _≤_}
 use native.Mathlib.Omega.{arith}
 use lib.IntN.{ℤ, pos, negsuc, natAbs, _+ℤ_, _-ℤ_, negℤ, +ℤ-idl, +ℤ-idr, +ℤ-assoc, +ℤ-comm, +ℤ-invr, negℤ-+ℤ, negℤ-negℤ, +ℤ-negℤ-cancel, -ℤ-+ℤ-cancel}
-use lib.IntN.{_*ℤ_, predℤ, sucℤ-+ℤ, predℤ-+ℤ, sucℤ-*ℤ, predℤ-*ℤ, zero-*ℤ, *ℤ-comm}
+use lib.IntN.{_*ℤ_, predℤ, sucℤ-+ℤ, predℤ-+ℤ, sucℤ-*ℤ, predℤ-*ℤ, zero-*ℤ, *ℤ-comm, *ℤ-one, one}
 use Rattle.sums.specs.Lists.{above, below}
 
 -- a - b, shut
@@ -139,3 +139,12 @@ bnd-one = omega arith
 
 pub bnd-mono : (m n : ℕ) (x : ℤ) → m ≤ n → Bnd m x → Bnd n x
 bnd-mono m n x h b = omega arith
+
+-- a number that is 1, 0 or -1 times another
+pub scaled : (n : ℕ) (c x : ℤ) → Bnd 1 c → Bnd n x → Bnd n (c *ℤ x)
+unfolding one
+scaled n (pos zero) x h k = rw (zero-*ℤ x) (omega arith)
+scaled n (pos (suc zero)) x h k = rw (*ℤ-comm (pos 1) x ∙ *ℤ-one x) k
+scaled n (pos (suc (suc m))) x h k = absurd (omega arith)
+scaled n (negsuc zero) x h k = rw (neg-mul (pos 1) x ∙ ap negℤ (*ℤ-comm (pos 1) x ∙ *ℤ-one x)) (bnd-neg n x k)
+scaled n (negsuc (suc m)) x h k = absurd (omega arith)

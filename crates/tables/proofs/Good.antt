@@ -1,11 +1,11 @@
 -- For passed solids the table and the list of half-edges are as `put_triangles` asks, and its triangles are the result's.
 use mathlib.Core.Path.{_≡_, sym, ap, _∙_, subst}
-use Prim.Native.Nat.{ℕ, zero, suc, _+_, _*_, _-_, _<_, _≤_}
+use Prim.Native.Nat.{ℕ, _+_, _*_, _-_, _<_, _≤_}
 use native.Mathlib.Omega.{arith}
 use native.Mathlib.Decide.{decLt}
-use lib.IntN.{ℤ, pos, negsuc, negℤ, one, _+ℤ_, _*ℤ_, *ℤ-comm, *ℤ-one, zero-*ℤ}
+use lib.IntN.{ℤ, pos, _+ℤ_, _*ℤ_}
 use lib.ListN.{length, getD, length-map, List·getD-eq-default}
-use Rattle.sums.proofs.Integers.{Bnd, bnd-add, bnd-neg, neg-mul}
+use Rattle.sums.proofs.Integers.{Bnd, bnd-add, scaled}
 use Rattle.crossings.proofs.Sizes.{two-ef, two-fe}
 use Rattle.solids.specs.Solids.{Solid, Half, vertices, facets, vertex, edge, facet, edges}
 use Rattle.solids.specs.Containment.{in-A, in-B}
@@ -15,24 +15,18 @@ use Rattle.results.specs.declared.Operation.the-variants.{Union, Intersection, 
 use Rattle.results.specs.Inclusion.{Key, vA, eAfB, fAeB, vB, cA, cB, cI, edge-facet, facet-edge, inclusion}
 use Rattle.results.specs.Vertices.{keys, number}
 use Rattle.results.specs.Triangles.{triangles}
-use Rattle.building.specs.Table as T
-use Rattle.tables.specs.Filled.{sizes, inclusions, numbers, filled, halves}
+use Rattle.tables.specs.Table as T
+use Rattle.tables.specs.Filled.{inclusions, numbers, filled}
+use Rattle.layouts.specs.Halves.{halves, edge-at}
+use Rattle.layouts.specs.Many.{sizes}
 use Rattle.sums.proofs.Places.{at-map}
-use Rattle.solids.proofs.Room.{edges-room}
 use Rattle.solids.proofs.Sizes.{size-in-A, size-in-B}
 use Rattle.tables.proofs.Keys.{no-key, length-keys, at-crossing}
-use Rattle.tables.proofs.Halves.{reads-A, reads-B, length-halves, known}
+use Rattle.layouts.proofs.Reading.{reads-A, reads-B, known}
+use Rattle.layouts.proofs.Lengths.{length-halves, sized}
 use Rattle.tables.proofs.Same.{same-triangles}
 
 -- ---- sizes of inclusions
-pub scaled : (n : ℕ) (c x : ℤ) → Bnd 1 c → Bnd n x → Bnd n (c *ℤ x)
-unfolding one
-scaled n (pos zero) x h k = rw (zero-*ℤ x) (omega arith)
-scaled n (pos (suc zero)) x h k = rw (*ℤ-comm (pos 1) x ∙ *ℤ-one x) k
-scaled n (pos (suc (suc m))) x h k = absurd (omega arith)
-scaled n (negsuc zero) x h k = rw (neg-mul (pos 1) x ∙ ap negℤ (*ℤ-comm (pos 1) x ∙ *ℤ-one x)) (bnd-neg n x k)
-scaled n (negsuc (suc m)) x h k = absurd (omega arith)
-
 pub shifted : (n : ℕ) (c i x : ℤ) → Bnd 1 c → Bnd 1 i → Bnd n x → Bnd (1 + n) (c +ℤ i *ℤ x)
 shifted n c i x h k l = bnd-add 1 n c (i *ℤ x) h (scaled n i x k l)
 
@@ -40,18 +34,6 @@ pub small-numbers : (op : Operation) → Bnd 1 (cA op) × Bnd 1 (cB op) × Bnd 1
 small-numbers Union = (omega arith, omega arith, omega arith)
 small-numbers Intersection = (omega arith, omega arith, omega arith)
 small-numbers Difference = (omega arith, omega arith, omega arith)
-
--- ---- sizes of solids
-pub sized : (a b : Solid) → Passed a → Passed b → T.Sized (sizes a b)
-sized a b passed-a passed-b =
-    record {
-      va = passed-a .few-vertices;
-      ea = omega (arith, edges-room a passed-a, passed-a .few-facets);
-      fa = passed-a .few-facets;
-      vb = passed-b .few-vertices;
-      eb = omega (arith, edges-room b passed-b, passed-b .few-facets);
-      fb = passed-b .few-facets;
-    }
 
 module _ (op : Operation) (a b : Solid) where
   size-eAfB : (e : Half) (g : ℕ) → Bnd 2 (inclusion op a b (eAfB e g))
@@ -105,7 +87,7 @@ module _ (op : Operation) (a b : Solid) where
           edge-A = λ h l. rw (reads-A a b h l .edge) (known a passed-a h l .number);
           start-A = λ h l. rw (reads-A a b h l .start) (known a passed-a h l .start);
           end-A = λ h l. rw (reads-A a b h l .end) (known a passed-a h l .end);
-          edge-B = λ h k l. let n = h - 3 * facets a in let m : n < 3 * facets b = omega arith in subst (λ h. T.edge-at (halves a b) h < length (edges b)) (back h k) (rw (reads-B a b n m .edge) (known b passed-b n m .number));
+          edge-B = λ h k l. let n = h - 3 * facets a in let m : n < 3 * facets b = omega arith in subst (λ h. edge-at (halves a b) h < length (edges b)) (back h k) (rw (reads-B a b n m .edge) (known b passed-b n m .number));
           start-B = λ h k l. let n = h - 3 * facets a in let m : n < 3 * facets b = omega arith in subst (λ h. getD (halves a b) (3 * h + 1) 0 < vertices b) (back h k) (rw (reads-B a b n m .start) (known b passed-b n m .start));
           end-B = λ h k l. let n = h - 3 * facets a in let m : n < 3 * facets b = omega arith in subst (λ h. getD (halves a b) (3 * h + 2) 0 < vertices b) (back h k) (rw (reads-B a b n m .end) (known b passed-b n m .end));
         }

@@ -12,17 +12,15 @@ use Rattle.solids.specs.Solids.{Solid, Half, vertices, facets, edges}
 use Rattle.solids.proofs.Shut.{edges-distinct}
 use Rattle.results.specs.Inclusion.{Key, vA, eAfB, fAeB, vB}
 use Rattle.results.specs.Vertices.{keys}
-use Rattle.building.specs.Table.{on-edge, on-facet, of-B, total}
-use Rattle.building.proofs.Slots.{in-row}
-use Rattle.tables.specs.Filled.{sizes}
+use Rattle.tables.specs.Table.{on-edge, on-facet, of-B, total}
+use Rattle.tables.proofs.Slots.{in-row}
+use Rattle.layouts.specs.Many.{sizes}
+use Rattle.layouts.proofs.Reading.{no-half}
 use Rattle.sums.proofs.Places.{all-getD, getD-behind, at-map, at-upTo, getD-upTo, length-blocks, getD-blocks}
 
 -- what would stand beyond the lists
 abbrev pub no-key : Key
 no-key = vA 0
-
-abbrev pub no-half : Half
-no-half = (0, 0)
 
 module _ (a b : Solid) where
   abbrev of-edge : Half → List Key

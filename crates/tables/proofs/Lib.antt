@@ -1,6 +1,8 @@
+pub mod Bound
+pub mod Gather
+pub mod Good
 pub mod Keys
 pub mod Numbers
-pub mod Halves
 pub mod Same
-pub mod Good
+pub mod Slots
 pub mod Use

@@ -17,13 +17,16 @@ use Rattle.results.specs.Inclusion.{Key, vA, eAfB, fAeB, vB}
 use Rattle.results.specs.Vertices.{keys}
 use Rattle.results.specs.Pieces.{SignedEnd, plain, ends-of-eA, ends-of-fAfB, ends-of-eB, gathered, pieces, as-half}
 use Rattle.results.specs.Triangles.{fan, pieces-of-eA, pieces-of-fAfB, pieces-of-eB, boundary-A, boundary-B, triangles}
-use Rattle.building.specs.declared.Sizes.{Sizes}
-use Rattle.building.specs.Table as T
-use Rattle.building.proofs.Slots.{edge-in, facet-in}
-use Rattle.tables.specs.Filled.{sizes, edge-number, halves}
+use Rattle.layouts.specs.declared.Sizes.{Sizes}
+use Rattle.layouts.specs.Halves.{edge-at}
+use Rattle.tables.specs.Table as T
+use Rattle.tables.proofs.Slots.{edge-in, facet-in}
+use Rattle.layouts.specs.Halves.{edge-number, halves}
+use Rattle.layouts.specs.Many.{sizes}
 use Rattle.sums.proofs.Places.{at-map, flat-upTo-add}
-use Rattle.tables.proofs.Keys.{no-key, no-half, length-keys, key-vA, key-eAfB, key-fAeB, key-vB}
-use Rattle.tables.proofs.Halves.{half-at, facet-half, reads-A, reads-B, known}
+use Rattle.tables.proofs.Keys.{no-key, length-keys, key-vA, key-eAfB, key-fAeB, key-vB}
+use Rattle.layouts.proofs.Reading.{no-half}
+use Rattle.layouts.proofs.Reading.{half-at, facet-half, reads-A, reads-B, known}
 
 -- ---- signs
 -- a half-edge's pieces are its edge's, turned round if it runs against it
@@ -78,7 +81,7 @@ module _ (inc : Key → ℤ) (num : Key → ℕ) (a b : Solid) (passed-a : Passe
     abbrev kA : Half
     kA = half-at a h
 
-    cross-A : (g : ℕ) → g < z .fb → T.end t (T.on-edge z (T.edge-at hs h) g) ≡ E (eAfB (edge-of kA) g)
+    cross-A : (g : ℕ) → g < z .fb → T.end t (T.on-edge z (edge-at hs h) g) ≡ E (eAfB (edge-of kA) g)
     cross-A g i =
         let r = reads-A a b h l in
         let k = known a passed-a h l in
@@ -93,19 +96,27 @@ module _ (inc : Key → ℤ) (num : Key → ℕ) (a b : Solid) (passed-a : Passe
         ap (λ r. T.off (E (vA (edge-of kA .0))) ∷ E (vA (edge-of kA .1)) ∷ r)
         (map-map G (plain inc) (map (eAfB (edge-of kA)) (upTo (z .fb))) ∙ map-map (λ k. G (plain inc k)) (eAfB (edge-of kA)) (upTo (z .fb)))
 
-    half-A : T.half t hs z h ≡ as-half kA (pieces-of-eA inc num a b (edge-of kA))
-    unfolding T.half T.line-of T.line-pieces T.line-ends
-    half-A =
+    -- its edge's ends
+    pub line-A : let l = T.line-of hs z h in T.line-ends t l (l .many) ≡ gathered num (ends-of-eA inc b (edge-of kA))
+    unfolding T.line-of T.line-ends
+    line-A =
         let r = reads-A a b h l in
         let k = known a passed-a h l in
         let s = at-vA (edge-of kA .0) (getD hs (3 * h + 1) 0) (r .start) (k .start) in
         let e = at-vA (edge-of kA .1) (getD hs (3 * h + 2) 0) (r .end) (k .end) in
-        let x = map-upTo (z .fb) (λ i. T.end t (T.on-edge z (T.edge-at hs h) 0 + i * 1)) (λ g. E (eAfB (edge-of kA) g)) (λ i m. ap (T.end t) (place i) ∙ cross-A i m) in
-        rw (lt-ltb _ _ l) ((λ j. T.turn (r .way j) (pieces (T.off (s j) ∷ e j ∷ x j)))
-        ∙ ap (λ es. T.turn (not (along kA)) (pieces es)) (sym ends-A) ∙ sym (as-turn kA (pieces-of-eA inc num a b (edge-of kA))))
+        let x = map-upTo (z .fb) (λ i. T.end t (T.on-edge z (edge-at hs h) 0 + i * 1)) (λ g. E (eAfB (edge-of kA) g)) (λ i m. ap (T.end t) (place i) ∙ cross-A i m) in
+        rw (lt-ltb _ _ l) ((λ j. T.off (s j) ∷ e j ∷ x j) ∙ sym ends-A)
       where
-        place : (i : ℕ) → T.on-edge z (T.edge-at hs h) 0 + i * 1 ≡ T.on-edge z (T.edge-at hs h) i
+        place : (i : ℕ) → T.on-edge z (edge-at hs h) 0 + i * 1 ≡ T.on-edge z (edge-at hs h) i
         place i = omega arith
+
+    way-A : T.line-of hs z h .against ≡ not (along kA)
+    unfolding T.line-of
+    way-A = rw (lt-ltb _ _ l) (reads-A a b h l .way)
+
+    half-A : T.half t hs z h ≡ as-half kA (pieces-of-eA inc num a b (edge-of kA))
+    unfolding T.half T.line-pieces
+    half-A = (λ j. T.turn (way-A j) (pieces (line-A j))) ∙ sym (as-turn kA (pieces-of-eA inc num a b (edge-of kA)))
 
   -- ---- half-edges of B
   module _ (h : ℕ) (l : h < 3 * z .fb) where
@@ -115,7 +126,7 @@ module _ (inc : Key → ℤ) (num : Key → ℕ) (a b : Solid) (passed-a : Passe
     abbrev n : ℕ
     n = 3 * z .fa + h
 
-    cross-B : (f : ℕ) → f < z .fa → T.end t (T.on-facet z f (T.edge-at hs n)) ≡ E (fAeB f (edge-of kB))
+    cross-B : (f : ℕ) → f < z .fa → T.end t (T.on-facet z f (edge-at hs n)) ≡ E (fAeB f (edge-of kB))
     cross-B f i =
         let r = reads-B a b h l in
         let k = known b passed-b h l in
@@ -130,20 +141,27 @@ module _ (inc : Key → ℤ) (num : Key → ℕ) (a b : Solid) (passed-a : Passe
         ap (λ r. T.off (E (vB (edge-of kB .0))) ∷ E (vB (edge-of kB .1)) ∷ r)
         (map-map G (plain inc) (map (λ f. fAeB f (edge-of kB)) (upTo (z .fa))) ∙ map-map (λ k. G (plain inc k)) (λ f. fAeB f (edge-of kB)) (upTo (z .fa)))
 
-    half-B : T.half t hs z n ≡ as-half kB (pieces-of-eB inc num a b (edge-of kB))
-    unfolding T.half T.line-of T.line-pieces T.line-ends
-    half-B =
+    pub line-B : let l = T.line-of hs z n in T.line-ends t l (l .many) ≡ gathered num (ends-of-eB inc a (edge-of kB))
+    unfolding T.line-of T.line-ends
+    line-B =
         let r = reads-B a b h l in
         let k = known b passed-b h l in
         let s = at-vB (edge-of kB .0) (getD hs (3 * n + 1) 0) (r .start) (k .start) in
         let e = at-vB (edge-of kB .1) (getD hs (3 * n + 2) 0) (r .end) (k .end) in
-        let x = map-upTo (z .fa) (λ i. T.end t (T.on-facet z 0 (T.edge-at hs n) + i * z .eb)) (λ f. E (fAeB f (edge-of kB))) (λ i m. ap (T.end t) (place i) ∙ cross-B i m) in
+        let x = map-upTo (z .fa) (λ i. T.end t (T.on-facet z 0 (edge-at hs n) + i * z .eb)) (λ f. E (fAeB f (edge-of kB))) (λ i m. ap (T.end t) (place i) ∙ cross-B i m) in
         let o : 3 * z .fa ≤ n = omega arith in
-        rw (le-ltb _ _ o) ((λ j. T.turn (r .way j) (pieces (T.off (s j) ∷ e j ∷ x j)))
-        ∙ ap (λ es. T.turn (not (along kB)) (pieces es)) (sym ends-B) ∙ sym (as-turn kB (pieces-of-eB inc num a b (edge-of kB))))
+        rw (le-ltb _ _ o) ((λ j. T.off (s j) ∷ e j ∷ x j) ∙ sym ends-B)
       where
-        place : (i : ℕ) → T.on-facet z 0 (T.edge-at hs n) + i * z .eb ≡ T.on-facet z i (T.edge-at hs n)
+        place : (i : ℕ) → T.on-facet z 0 (edge-at hs n) + i * z .eb ≡ T.on-facet z i (edge-at hs n)
         place i = omega (arith, zero-mul (z .eb))
+
+    way-B : T.line-of hs z n .against ≡ not (along kB)
+    unfolding T.line-of
+    way-B = let o : 3 * z .fa ≤ n = omega arith in rw (le-ltb _ _ o) (reads-B a b h l .way)
+
+    half-B : T.half t hs z n ≡ as-half kB (pieces-of-eB inc num a b (edge-of kB))
+    unfolding T.half T.line-pieces
+    half-B = (λ j. T.turn (way-B j) (pieces (line-B j))) ∙ sym (as-turn kB (pieces-of-eB inc num a b (edge-of kB)))
 
   -- ---- by facet and which of its three: the half-edge's number m is 3 f + k
   module _ (f : ℕ) (i : f < z .fa) (k m : ℕ) (l : k < 3) (e : m ≡ 3 * f + k) where
@@ -186,9 +204,9 @@ module _ (inc : Key → ℤ) (num : Key → ℕ) (a b : Solid) (passed-a : Passe
         ∙ ap (λ h. T.flip (not (along h)) (E (fAeB f (edge-of h)))) named-B ∙ plus-flip (along hB) (num (fAeB f (edge-of hB))) (inc (fAeB f (edge-of hB)))
 
   -- ---- two facets
-  both-facets : (f g : ℕ) → f < z .fa → g < z .fb → pieces (T.pair-ends t hs z f g) ≡ pieces-of-fAfB inc num a b f g
+  pub pair-A-B : (f g : ℕ) → f < z .fa → g < z .fb → T.pair-ends t hs z f g ≡ gathered num (ends-of-fAfB inc a b f g)
   unfolding T.pair-ends ends-of-fAfB
-  both-facets f g i j =
+  pair-A-B f g i j =
       let m = z .fa + g in
       let a0 = end-A f i 0 (3 * f) (omega arith) (omega arith) g j in
       let a1 = end-A f i 1 (3 * f + 1) (omega arith) refl g j in
@@ -196,7 +214,10 @@ module _ (inc : Key → ℤ) (num : Key → ℕ) (a b : Solid) (passed-a : Passe
       let b0 = end-B g j 0 (3 * m) (omega arith) (omega arith) f i in
       let b1 = end-B g j 1 (3 * m + 1) (omega arith) refl f i in
       let b2 = end-B g j 2 (3 * m + 2) (omega arith) refl f i in
-      λ x. pieces (a0 x ∷ a1 x ∷ a2 x ∷ b0 x ∷ b1 x ∷ b2 x ∷ [])
+      λ x. a0 x ∷ a1 x ∷ a2 x ∷ b0 x ∷ b1 x ∷ b2 x ∷ []
+
+  both-facets : (f g : ℕ) → f < z .fa → g < z .fb → pieces (T.pair-ends t hs z f g) ≡ pieces-of-fAfB inc num a b f g
+  both-facets f g i j = ap pieces (pair-A-B f g i j)
 
   pair-A : (f g : ℕ) → f < z .fa → g < z .fb → T.pair t hs z f g ≡ pieces-of-fAfB inc num a b f g
   unfolding T.pair

@@ -14,8 +14,10 @@ use Rattle.results.specs.Triangles.{Triangle, triangles, listed, result}
 use Rattle.laying.specs.Rank.{rank}
 use Rattle.laying.specs.Laid.{Laid}
 use Rattle.laying.proofs.Fans.{three-each, one-each, laid-onto}
-use Rattle.building.specs.Table as T
-use Rattle.tables.specs.Filled.{sizes, inclusions, filled, halves}
+use Rattle.tables.specs.Table as T
+use Rattle.tables.specs.Filled.{inclusions, filled}
+use Rattle.layouts.specs.Halves.{halves}
+use Rattle.layouts.specs.Many.{sizes}
 use Rattle.tables.proofs.Numbers.{ranks-count}
 use Rattle.tables.proofs.Good.{read-triangles}
 

@@ -1,1 +1,2 @@
-// What the table and the list of half-edges are for two solids, and that the triangles read from them are the result's.
+// The table of everything that can become a vertex, with its inclusion and its number, in listing order. It is of contracts alone: no code has it.
+// There is nothing to run here.

@@ -31,6 +31,13 @@ fn crossing_needles(r: &mut Random, rows: usize, columns: usize, times: usize) -
     (together(&a), together(&b))
 }
 
+/// Edges that many facets cross, those of A and those of B, and more crossings in all than a short
+/// list of them holds.
+pub fn crossed(r: &mut Random) -> Pair {
+    let (rows, columns) = r.pick(&[(1, 30), (30, 1), (2, 24), (24, 2), (13, 13), (20, 20)]);
+    crossing_needles(r, rows, columns, 1)
+}
+
 /// A long thin tetrahedron along an axis, so many times over the same vertices.
 fn needle(r: &mut Random, axis: usize, at: usize, times: usize) -> Solid {
     let points = [(-60.0, -0.2, 0.0), (-60.0, 0.2, 0.0), (70.0, 0.0, -0.2), (70.0, 0.0, 0.2)].map(

@@ -11,11 +11,11 @@ mul-start c = search needs
 mul-start-2 : tie.Need-mul-start-2
 mul-start-2 c = search needs
 
-element-copy-out-start : tie.Need-element-copy-out-start
-element-copy-out-start c = search needs
+shared-slice-read-start : tie.Need-shared-slice-read-start
+shared-slice-read-start c = search needs
 
 cast-start : tie.Need-cast-start
-cast-start c = let s = c .before .before .before in record { fits = omega (arith, start-below (s .pre .0) (s .args .e) (s .pre .1), s .pre .0 .few-points) }
+cast-start c = let s = c .before .before .before .before in record { fits = omega (arith, start-below (s .pre .0) (s .args .e) (s .pre .1), s .pre .0 .few-points) }
 
 mul-end : tie.Need-mul-end
 mul-end c = search needs
@@ -26,20 +26,20 @@ add-end c = search needs
 mul-end-2 : tie.Need-mul-end-2
 mul-end-2 c = search needs
 
-element-copy-out-end : tie.Need-element-copy-out-end
-element-copy-out-end c = search needs
+shared-slice-read-end : tie.Need-shared-slice-read-end
+shared-slice-read-end c = search needs
 
 cast-end : tie.Need-cast-end
-cast-end c = let s = c .before .before .before .before in record { fits = omega (arith, stop-below (s .pre .0) (s .args .e) (s .pre .1), s .pre .0 .few-points) }
+cast-end c = let s = c .before .before .before .before .before in record { fits = omega (arith, stop-below (s .pre .0) (s .args .e) (s .pre .1), s .pre .0 .few-points) }
 
 vertex-requires : tie.Need-vertex-requires
-vertex-requires c κs = let s = c .before .before .before .before in start-below (s .pre .0) (s .args .e) (s .pre .1)
+vertex-requires c κs = let s = c .before .before .before .before .before in start-below (s .pre .0) (s .args .e) (s .pre .1)
 
 vertex-requires-2 : tie.Need-vertex-requires-2
-vertex-requires-2 c κs = let s = c .before .before .before .before .before in stop-below (s .pre .0) (s .args .e) (s .pre .1)
+vertex-requires-2 c κs = let s = c .before .before .before .before .before .before in stop-below (s .pre .0) (s .args .e) (s .pre .1)
 
 returns : tie.Need-returns
-returns c = let s = c .before .before .before .before .before .before in rw (c .before .vertex .ensures, c .vertex2 .ensures, start-there (s .pre .0) (s .args .e) (s .pre .1), stop-there (s .pre .0) (s .args .e) (s .pre .1))
+returns c = let s = c .before .before .before .before .before .before .before in rw (c .before .vertex .ensures, c .vertex2 .ensures, start-there (s .pre .0) (s .args .e) (s .pre .1), stop-there (s .pre .0) (s .args .e) (s .pre .1))
 
 pub edge-at-spec : {M : Type 1} → statement M
 edge-at-spec =
@@ -47,12 +47,12 @@ edge-at-spec =
     (tie.spec
     mul-start
     mul-start-2
-    element-copy-out-start
+    shared-slice-read-start
     cast-start
     mul-end
     add-end
     mul-end-2
-    element-copy-out-end
+    shared-slice-read-end
     cast-end
     vertex-requires
     vertex-requires-2

@@ -16,10 +16,10 @@ abbrev μ-loop : tie.MeasureT-loop
 μ-loop table corners n ends₀ numbers₀ many₀ p₀ ends numbers many p = n - p
 
 loop-holds : tie.Need-loop-holds Inv-loop μ-loop
-loop-holds c = (omega arith, subst (λ es. Listed es (c .before .args .ends .now) (c .before .args .numbers .now) 0) (sym (edges-none (c .before .args .corners .now) (c .before .args .n))) (c .before .pre .1))
+loop-holds c = (omega arith, subst (λ es. Listed es (c .before .before .args .ends .now) (c .before .before .args .numbers .now) 0) (sym (edges-none (c .before .before .args .corners .now) (c .before .before .args .n))) (c .before .before .pre .1))
 
 put-row-requires : tie.Need-put-row-requires Inv-loop μ-loop
-put-row-requires c κs = let s = c .before .before .before .before .before in ((c .before .before .loop-test .taken, s .pre .0 .0, s .pre .0 .1), c .before .before .before .loop .inv .1)
+put-row-requires c κs = let s = c .before .before .before .before .before .before in ((c .before .before .loop-test .taken, s .pre .0 .0, s .pre .0 .1), c .before .before .before .loop .inv .1)
 
 add-p : tie.Need-add-p Inv-loop μ-loop
 add-p c = search needs
@@ -28,12 +28,15 @@ loop-less : tie.Need-loop-less Inv-loop μ-loop
 loop-less c = search needs
 
 loop-again : tie.Need-loop-again Inv-loop μ-loop
-loop-again c = (omega arith, c .put-row .ensures)
+loop-again c = (omega arith, c .before .before .put-row .ensures)
+
+same-length : tie.Need-same-length Inv-loop μ-loop
+same-length c = c .before .loop .inv .1 .room ∙ sym (c .before .before .before .before .pre .1 .room)
 
 returns : tie.Need-returns Inv-loop μ-loop
-returns c = let l = c .before in let a = l .before .before .args in subst (λ es. Listed es (l .loop .ends) (l .loop .numbers) (l .loop .many)) (ap (λ p. edges-seen (a .corners .now) (a .n) p 0) (le-antisymm (l .loop .inv .0) (c .loop-test .left)) ∙ edges-all (a .corners .now) (a .n)) (l .loop .inv .1)
+returns c = let l = c .before in let a = l .before .before .before .args in subst (λ es. Listed es (l .loop .ends) (l .loop .numbers) (l .loop .many)) (ap (λ p. edges-seen (a .corners .now) (a .n) p 0) (le-antisymm (l .loop .inv .0) (c .loop-test .left)) ∙ edges-all (a .corners .now) (a .n)) (l .loop .inv .1)
 
 pub list-edges-spec : {M : Type 1} → statement M
 list-edges-spec =
     tie.close
-    (tie.spec Inv-loop μ-loop loop-holds put-row-requires add-p loop-less loop-again returns)
+    (tie.spec Inv-loop μ-loop loop-holds put-row-requires add-p loop-less loop-again same-length returns)

@@ -38,16 +38,16 @@ joins-requires : tie.Need-joins-requires
 joins-requires c κs = search needs
 
 mul-store : tie.Need-mul-store
-mul-store c = omega (arith, few (c .before .before .before .before))
+mul-store c = omega (arith, few (c .before .before .before .before .before))
 
 store-requires : tie.Need-store-requires
 store-requires c κs = search needs
 
 mul-store-2 : tie.Need-mul-store-2
-mul-store-2 c = omega (arith, few (c .before .before .before .before .before .before))
+mul-store-2 c = omega (arith, few (c .before .before .before .before .before .before .before .before .before))
 
 add-store : tie.Need-add-store
-add-store c = omega (arith, few (c .before .before .before .before .before .before))
+add-store c = omega (arith, few (c .before .before .before .before .before .before .before .before .before))
 
 store-requires-2 : tie.Need-store-requires-2
 store-requires-2 c κs = search needs
@@ -56,7 +56,7 @@ place-requires : tie.Need-place-requires
 place-requires c κs = search needs
 
 cast-numbers : tie.Need-cast-numbers
-cast-numbers c = omega (arith, few (c .before .before .before .before .before .before .before .before))
+cast-numbers c = omega (arith, few (c .before .before .before .before .before .before .before .before .before .before .before .before .before))
 
 mul-numbers : tie.Need-mul-numbers
 mul-numbers c = search needs
@@ -65,13 +65,16 @@ element-write-numbers : tie.Need-element-write-numbers
 element-write-numbers c = search needs
 
 add-result : tie.Need-add-result
-add-result c = omega (arith, few (c .before .before .before .before .before .before .before .before))
+add-result c = omega (arith, few (c .before .before .before .before .before .before .before .before .before .before .before .before .before))
+
+same-length : tie.Need-same-length
+same-length c = search needs
 
 returns : tie.Need-returns
-returns c = let s = c .before .before .before .before .before .before .before .before in rw (one-more s (sym (c .before .before .before .before .before .before .joins .ensures) ∙ c .before .before .before .before .before .if1 .taken), c .before .store2 .ensures, c .before .before .before .store .ensures, c .place .ensures .0) (listed-next (so-far s) (s .args .ends .now) (s .args .numbers .now) (s .args .k) (s .args .p) (s .args .q) (omega arith) (omega arith) (early s) (s .pre .1))
+returns c = let s = c .before .before .before .before .before .before .before .before .before .before .before .before .before in rw (one-more s (sym (c .before .before .before .before .before .before .before .before .before .before .joins .ensures) ∙ c .before .before .before .before .before .before .before .before .before .if1 .taken), c .before .before .before .store2 .ensures, c .before .before .before .before .before .before .before .store .ensures, c .place .ensures .0) (listed-next (so-far s) (s .args .ends .now) (s .args .numbers .now) (s .args .k) (s .args .p) (s .args .q) (omega arith) (omega arith) (early s) (s .pre .1))
 
 returns-2 : tie.Need-returns-2
-returns-2 c = let s = c .before .before .before in rw (no-more s (sym (c .before .joins .ensures) ∙ c .if1 .left)) (s .pre .1)
+returns-2 c = let s = c .before .before .before .before in rw (no-more s (sym (c .before .joins .ensures) ∙ c .if1 .left)) (s .pre .1)
 
 pub put-edge-spec : {M : Type 1} → statement M
 put-edge-spec =
@@ -88,5 +91,6 @@ put-edge-spec =
     mul-numbers
     element-write-numbers
     add-result
+    same-length
     returns
     returns-2)

@@ -1,0 +1,14 @@
+pub mod Rows
+pub mod Dense
+pub mod Gathered
+pub mod Single
+pub mod Skips
+pub mod Same
+pub mod Marking
+pub mod Marked
+pub mod Held
+pub mod Balances
+pub mod Counted
+pub mod Found
+pub mod Ranked
+pub mod Use

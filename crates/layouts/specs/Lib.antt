@@ -1,0 +1,4 @@
+pub mod Halves
+pub mod Many
+pub mod Packed
+pub mod Rows

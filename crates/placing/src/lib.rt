@@ -1,0 +1,137 @@
+// The points of the result, one behind the other: the vertices of A that are kept, the crossings row by row, the vertices of B that are kept.
+use found::Row;
+use layouts::Sizes;
+use layouts::pack;
+use points::Point;
+ghost use mathlib.Core.Path.{_≡_};
+ghost use mathlib.Core.List.{[]};
+ghost use Prim.Native.Nat.{ℕ, _+_, _/_, _<_, _≤_};
+ghost use lib.ListN.{length, getD, take, drop};
+ghost use lib.Seq.{sets};
+ghost use Rattle.sums.specs.Lists.{onto};
+ghost use Rattle.solids.specs.Solids as So;
+ghost use Rattle.edges.specs.Words as Ed;
+ghost use Rattle.layouts.specs.Many as Ma;
+ghost use Rattle.layouts.specs.Packed as Pa;
+ghost use Rattle.layouts.specs.Rows as Ro;
+ghost use Rattle.placing.specs.Placed as Pl;
+
+// "A new vertex in a result is A's point."
+fn point_on(row: Row, bp: &[f64], bc: &[u32], be: &[u32], c: usize) -> Point
+    requires { ⌜ Ed.Ready (now bp) (now bc) (now be) × (c < Pl.width row (So.solid (now bp) (now bc))) ⌝ }
+    ensures { λ v. ⌜ v ≡ Pl.point-on row (So.solid (now (bp .entry)) (now (bc .entry))) c ⌝ }
+{
+    let crossing = match row {
+        Row::OfEdge(edge) => edgewise::ef(edge, containment::facet(bp, bc, c)),
+        Row::OfFacet(facet) => edgewise::fe(facet, edges::edge_at(bp, be, bc, c)),
+    };
+    let both = crossing.points();
+    both.a
+}
+
+// The crossings of a row, which stand at the places from `from` to before `to`; the answer is where the list goes on.
+fn put_row(
+    row: Row,
+    bp: &[f64],
+    bc: &[u32],
+    be: &[u32],
+    crossed: &[u32],
+    from: usize,
+    to: usize,
+    list: &mut [f64],
+    at: usize,
+) -> usize
+    requires { ⌜ Ed.Ready (now bp) (now bc) (now be) ⌝ }
+    requires { ⌜ (to ≤ length (now crossed)) × ((k : ℕ) → from ≤ k → k < to → Pa.column (getD (now crossed) k 0) < Pl.width row (So.solid (now bp) (now bc))) ⌝ }
+    requires { ⌜ at + length (Pl.stretch (Pl.point-on row (So.solid (now bp) (now bc))) (now crossed) from to) ≤ length (now list) ⌝ }
+    ensures put { λ r. ⌜ now (list .exit) ≡ sets (now (list .entry)) at (Pl.stretch (Pl.point-on row (So.solid (now (bp .entry)) (now (bc .entry)))) (now (crossed .entry)) from to) ⌝ }
+    ensures next { λ r. ⌜ r ≡ at + length (Pl.stretch (Pl.point-on row (So.solid (now (bp .entry)) (now (bc .entry)))) (now (crossed .entry)) from to) ⌝ }
+{
+    let mut next = at;
+    let mut k = from;
+    while k < to {
+        let c = pack::column(crossed[k]);
+        let v = point_on(row, bp, bc, be, c);
+        lists::put_point(v, list, next);
+        next += 3;
+        k += 1;
+    }
+    next
+}
+
+// All rows. `ends` has A's edges and then B's.
+fn put_rows(
+    z: Sizes,
+    ap: &[f64],
+    ac: &[u32],
+    bp: &[f64],
+    bc: &[u32],
+    ends: &[u32],
+    first: &[u32],
+    crossed: &[u32],
+    list: &mut [f64],
+    at: usize,
+) -> usize
+    requires { ⌜ Ed.Ready (now ap) (now ac) (take 768 (now ends)) × Ed.Ready (now bp) (now bc) (drop 768 (now ends)) × (length (now ends) ≡ 1536) ⌝ }
+    requires { ⌜ (z ≡ Ma.sizes (So.solid (now ap) (now ac)) (So.solid (now bp) (now bc))) × Ro.Columns z (now first) (now crossed) ⌝ }
+    requires { ⌜ at + length (Pl.of-rows (So.solid (now ap) (now ac)) (So.solid (now bp) (now bc)) (now first) (now crossed)) ≤ length (now list) ⌝ }
+    ensures put { λ r. ⌜ now (list .exit) ≡ sets (now (list .entry)) at (Pl.of-rows (So.solid (now (ap .entry)) (now (ac .entry))) (So.solid (now (bp .entry)) (now (bc .entry))) (now (first .entry)) (now (crossed .entry))) ⌝ }
+    ensures next { λ r. ⌜ r ≡ at + length (Pl.of-rows (So.solid (now (ap .entry)) (now (ac .entry))) (So.solid (now (bp .entry)) (now (bc .entry))) (now (first .entry)) (now (crossed .entry))) ⌝ }
+{
+    let ae = &ends[..768];
+    let be = &ends[768..];
+    let rows = z.ea + z.fa;
+    let mut next = at;
+    let mut r = 0;
+    while r < rows {
+        let row = found::row_at(ap, ac, ae, z.ea, r);
+        let from = first[r] as usize;
+        let to = first[r + 1] as usize;
+        next = put_row(row, bp, bc, be, crossed, from, to, list, next);
+        r += 1;
+    }
+    next
+}
+
+// A solid's vertices that are kept; their inclusions stand from place `from` on.
+fn put_vertices(vs: &[f64], inc: &[i16], from: usize, list: &mut [f64], at: usize) -> usize
+    requires { ⌜ from + length (now vs) / 3 ≤ length (now inc) ⌝ }
+    requires { ⌜ at + length (Pl.of-vertices (So.solid (now vs) []) (now inc) from) ≤ length (now list) ⌝ }
+    ensures put { λ r. ⌜ now (list .exit) ≡ sets (now (list .entry)) at (Pl.of-vertices (So.solid (now (vs .entry)) []) (now (inc .entry)) from) ⌝ }
+    ensures next { λ r. ⌜ r ≡ at + length (Pl.of-vertices (So.solid (now (vs .entry)) []) (now (inc .entry)) from) ⌝ }
+{
+    let many = vs.len() / 3;
+    let mut next = at;
+    let mut i = 0;
+    while i < many {
+        let n = inc[from + i];
+        if n != 0 {
+            lists::put_point(checks::vertices::vertex(vs, i), list, next);
+            next += 3;
+        }
+        i += 1;
+    }
+    next
+}
+
+pub fn put_points(
+    z: Sizes,
+    ap: &[f64],
+    ac: &[u32],
+    bp: &[f64],
+    bc: &[u32],
+    ends: &[u32],
+    inc: &[i16],
+    first: &[u32],
+    crossed: &[u32],
+    points: &mut [f64],
+)
+    requires { ⌜ Ed.Ready (now ap) (now ac) (take 768 (now ends)) × Ed.Ready (now bp) (now bc) (drop 768 (now ends)) × (length (now ends) ≡ 1536) ⌝ }
+    requires { ⌜ (z ≡ Ma.sizes (So.solid (now ap) (now ac)) (So.solid (now bp) (now bc))) × Ro.Columns z (now first) (now crossed) × (z .va + z .vb ≤ length (now inc)) ⌝ }
+    requires { ⌜ length (Pl.placed (So.solid (now ap) (now ac)) (So.solid (now bp) (now bc)) (now inc) (now first) (now crossed)) ≤ length (now points) ⌝ }
+    ensures { λ _. ⌜ now (points .exit) ≡ onto (Pl.placed (So.solid (now (ap .entry)) (now (ac .entry))) (So.solid (now (bp .entry)) (now (bc .entry))) (now (inc .entry)) (now (first .entry)) (now (crossed .entry))) (now (points .entry)) ⌝ }
+{
+    let behind_a = put_vertices(ap, inc, 0, points, 0);
+    let behind_rows = put_rows(z, ap, ac, bp, bc, ends, first, crossed, points, behind_a);
+    put_vertices(bp, inc, z.va, points, behind_rows);
+}

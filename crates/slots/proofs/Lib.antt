@@ -1,2 +1,0 @@
-pub mod Keyed
-pub mod Kept
