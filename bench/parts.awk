@@ -15,12 +15,12 @@ BEGIN {
     part("making ready: edges and half-edges", "halves::sides::ready")
     part("clearing the lists of crossings", "")
     part("crossings found, with boxes", "found::find_kind")
-    part("inclusions of vertices", "found::inside::include_side")
+    part("inclusions of vertices", "inclusions::include_side")
     part("numbers, marks by edge", "")
     part("marks by facet", "marking::fill::mark_half")
-    part("triangles counted", "walking::count::tell_line walking::count::tell_pair")
+    part("triangles counted", "triangle_count::tell_line triangle_count::tell_pair")
     part("writing of the points", "")
-    part("pieces and triangles, written", "pieces::lines::half_pieces pieces::pairs::pair_pieces walking::boundary::row")
+    part("pieces and triangles, written", "edge_pieces::half_pieces facet_pieces::pair_pieces triangles::boundary::row")
     operation = "measured_" side
     FS = "/"
 }

@@ -11,8 +11,8 @@ use Rattle.results.specs.Operation.{Lent, Operate}
 use Rattle.results.specs.Origin.{Part, Shown}
 use Rattle.housefile.specs.Reader.{ReadFile}
 use Rattle.housefile.specs.Writer.{WriteFile}
-use Rattle.programs.specs.Answers.{Program, Printed}
-use Rattle.capi.specs.Shown.{ShownCopied}
+use Rattle.line.specs.Answers.{Program, Printed}
+use Rattle.origins.specs.Shown.{ShownCopied}
 
 abbrev pub One : {A : Type 0} → (A → Type 0) → Type 0
 One {A} allowed = (r q : A) → allowed r → allowed q → r ≡ q
@@ -28,12 +28,12 @@ pub record Unique : Type 0 where
   pub admit-point : (v : Point) → One (AdmitPoint v)
   -- origins::shown
   pub shown : (a b : Part) (origin : ℕ) → One (Shown a b origin)
-  -- files::reader::read and files::writer::write
+  -- housefile_reader::read and housefile_writer::write
   pub read : (bs : List ℕ) (ps : List Float) (cs : List ℕ) → One (ReadFile bs ps cs)
   pub write : (s : Solid) (bs : List ℕ) → One (WriteFile s bs)
   -- programs::outcome and programs::printed
   pub program : (input : List ℕ) → One (Program input)
   pub printed : (input : List ℕ) → One (Printed input)
-  -- capi: `ozoravesh_admit` tells the verdict's number, and `ozoravesh_shown` copies what is shown; the other calls for C cite a relation above
+  -- capi: `ozoravesh_admit` tells the verdict's number, and origins::copied copies what is shown; the other calls for C cite a relation above
   pub admit : (s : Solid) → One (Admit s)
   pub shown-copied : (a b : Part) (origin : ℕ) (lent : List ℕ) → One (ShownCopied a b origin lent)

@@ -3,7 +3,6 @@ use housefile::Read;
 use housefile::Written;
 use points::Point;
 use results::Made;
-use solids::Answer;
 use solids::Counted;
 ghost use Rattle.solids.specs.Solids as So;
 ghost use Rattle.solids.specs.Admission as Ad;
@@ -12,8 +11,8 @@ ghost use Rattle.results.specs.Operation as Op;
 ghost use Rattle.results.specs.Origin as Or;
 ghost use Rattle.housefile.specs.Reader as Rd;
 ghost use Rattle.housefile.specs.Writer as Wr;
-ghost use Rattle.programs.specs.Answers as An;
-ghost use Rattle.capi.specs.Shown as Sh;
+ghost use Rattle.line.specs.Answers as An;
+ghost use Rattle.origins.specs.Shown as Sh;
 
 // Union (0), intersection (1) or difference (2) of A and B.
 #[no_mangle]
@@ -78,18 +77,7 @@ pub extern "C" fn ozoravesh_shown<'a>(
 ) -> Written
     ensures { λ r. ⌜ Sh.ShownCopied (Or.standing (ac .entry .ptr) (now (ac .entry))) (Or.standing (bc .entry .ptr) (now (bc .entry))) origin (now (part .entry)) (r, now (part .exit)) ⌝ }
 {
-    let found = origins::shown(ac, bc, origin);
-    if part.len() < found.len() {
-        return Written {
-            answer: Answer { number: 8 },
-            used: 0,
-        };
-    }
-    lists::copy_corners(found, part);
-    Written {
-        answer: Answer { number: 0 },
-        used: found.len(),
-    }
+    origins::copied(ac, bc, origin, part)
 }
 
 // A house file's solid, in the fronts of two lent lists.
@@ -97,7 +85,7 @@ pub extern "C" fn ozoravesh_shown<'a>(
 pub extern "C" fn ozoravesh_read(bytes: &[u8], points: &mut [f64], corners: &mut [u32]) -> Read
     ensures { λ r. ⌜ Rd.ReadFile (now (bytes .entry)) (now (points .entry)) (now (corners .entry)) (r, (now (points .exit), now (corners .exit))) ⌝ }
 {
-    files::reader::read(bytes, points, corners)
+    housefile_reader::read(bytes, points, corners)
 }
 
 // A solid's house file, in the front of lent bytes.
@@ -105,7 +93,7 @@ pub extern "C" fn ozoravesh_read(bytes: &[u8], points: &mut [f64], corners: &mut
 pub extern "C" fn ozoravesh_write(points: &[f64], corners: &[u32], bytes: &mut [u8]) -> Written
     ensures { λ r. ⌜ Wr.WriteFile (So.solid (now (points .entry)) (now (corners .entry))) (now (bytes .entry)) (r, now (bytes .exit)) ⌝ }
 {
-    files::writer::write(points, corners, bytes)
+    housefile_writer::write(points, corners, bytes)
 }
 
 // The three numbers that the program `solid` prints for this input.

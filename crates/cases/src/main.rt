@@ -1,32 +1,30 @@
 // Answers the requests of the case language on standard input, one after the other.
 mod answers;
 mod calls;
-mod reading;
 
-use caselang::fronts;
-use caselang::input;
-use caselang::input::Buffer;
-use caselang::input::Letters;
-use caselang::input::Reader;
-use caselang::output::Lines;
-use caselang::requests;
-use caselang::requests::Kind;
-ghost use Rattle.caselang.specs.Reading.{Sound};
+use case_lines::Lines;
+use case_parts::requests;
+use case_parts::requests::Kind;
+use case_words::input;
+use case_words::input::Buffer;
+use case_words::input::Letters;
+use case_words::input::Reader;
+ghost use Rattle.case_words.specs.Reading.{Sound};
 
 // Reads and answers the request that the word at hand begins. One that cannot be read has no answer, and leaves the reader not good.
 fn request(buffer: &mut Buffer, letters: &mut Letters, out: &mut Lines, mut r: Reader) -> Reader
     requires { ⌜ Sound r ⌝ }
     ensures { λ q. ⌜ Sound q ⌝ }
 {
-    let kind = requests::begun(fronts::bytes(letters, r.length));
+    let kind = requests::begun(case_fronts::bytes(letters, r.length));
     r.held = false;
     match kind {
         Kind::Op => answers::op(buffer, letters, out, r),
-        Kind::Count => answers::count(buffer, letters, out, r),
-        Kind::Admit => answers::admit(buffer, letters, out, r),
-        Kind::Shown => answers::shown(buffer, letters, out, r),
-        Kind::Read => answers::read(buffer, letters, out, r),
-        Kind::Write => answers::write(buffer, letters, out, r),
+        Kind::Count => case_answers::count(buffer, letters, out, r),
+        Kind::Admit => case_answers::admit(buffer, letters, out, r),
+        Kind::Shown => case_answers::shown(buffer, letters, out, r),
+        Kind::Read => case_answers::read(buffer, letters, out, r),
+        Kind::Write => case_answers::write(buffer, letters, out, r),
         Kind::Solid => answers::solid(buffer, letters, out, r),
         Kind::Unknown => {
             r.held = true;
@@ -44,7 +42,7 @@ fn answered(buffer: &mut Buffer, letters: &mut Letters, out: &mut Lines, r: Read
     if q.good {
         return q;
     }
-    calls::unknown(out);
+    case_answers::calls::unknown(out);
     let mut next = requests::resumed(buffer, letters, q);
     next.good = true;
     next

@@ -1,122 +1,15 @@
 // The checks 1 to 6 on one solid, in document 01's order.
-use crate::vertices;
 use points::Point;
 use solids::Answer;
 use solids::Verdict;
 ghost use mathlib.Core.Path.{_≡_};
 ghost use mathlib.Core.List.{[]};
-ghost use Prim.Native.Nat.{_+_, _*_, _/_, _%_, _<_, _≤_};
+ghost use Prim.Native.Nat.{_≤_};
 ghost use lib.ListN.{length};
-ghost use lib.Ieee.{isNan};
-ghost use Rattle.sums.specs.Lists.{any, upTo};
-ghost use Rattle.points.specs.Points.{coordinates};
+ghost use Rattle.sums.specs.Lists.{any};
 ghost use Rattle.solids.specs.Solids as So;
 ghost use Rattle.solids.specs.Admission as Ad;
 ghost use Rattle.solids.specs.Table as Ta;
-
-// A NaN, and nothing else, differs from itself.
-pub fn blank(x: f64) -> bool
-    ensures { λ r. ⌜ r ≡ isNan x ⌝ }
-{
-    x != x
-}
-
-pub fn beyond(x: f64) -> bool
-    ensures { λ r. ⌜ r ≡ Ad.beyond x ⌝ }
-{
-    if x > 1048576.0 { true } else { x < -1048576.0 }
-}
-
-// Check 3 (blanks) or check 4 (beyond the limit) of one coordinate.
-fn bad(blanks: bool, x: f64) -> bool
-    ensures { λ r. ⌜ r ≡ Ta.bad blanks x ⌝ }
-{
-    if blanks { blank(x) } else { beyond(x) }
-}
-
-fn bad_point(blanks: bool, v: Point) -> bool
-    ensures { λ r. ⌜ r ≡ any (Ta.bad blanks) (coordinates v) ⌝ }
-{
-    if bad(blanks, v.x) {
-        true
-    } else if bad(blanks, v.y) {
-        true
-    } else {
-        bad(blanks, v.z)
-    }
-}
-
-// Vertex by vertex; of whole threes no coordinate is left out.
-fn some_bad(blanks: bool, points: &[f64]) -> bool
-    requires { ⌜ length (now points) % 3 ≡ 0 ⌝ }
-    ensures { λ r. ⌜ r ≡ any (Ta.bad blanks) (now (points .entry)) ⌝ }
-{
-    let mut i = 0;
-    while i < points.len() / 3 {
-        if bad_point(blanks, vertices::vertex(points, i)) {
-            return true;
-        }
-        i += 1;
-    }
-    false
-}
-
-fn wide(x: u32) -> usize
-    ensures { λ r. ⌜ r ≡ x ⌝ }
-{
-    x as usize
-}
-
-fn too_high(n: usize, p: u32, q: u32, r: u32) -> bool
-    ensures { λ b. ⌜ b ≡ Ad.too-high n p q r ⌝ }
-{
-    if n <= wide(p) {
-        true
-    } else if n <= wide(q) {
-        true
-    } else {
-        n <= wide(r)
-    }
-}
-
-fn named_twice(p: u32, q: u32, r: u32) -> bool
-    ensures { λ b. ⌜ b ≡ Ad.named-twice p q r ⌝ }
-{
-    if p == q {
-        true
-    } else if q == r {
-        true
-    } else {
-        r == p
-    }
-}
-
-fn faulty(points: &[f64], corners: &[u32], f: usize) -> bool
-    requires { ⌜ f < length (now corners) / 3 ⌝ }
-    ensures { λ r. ⌜ r ≡ Ad.faulty (So.solid (now (points .entry)) (now (corners .entry))) f ⌝ }
-{
-    let p = corners[3 * f];
-    let q = corners[3 * f + 1];
-    let r = corners[3 * f + 2];
-    if too_high(points.len() / 3, p, q, r) {
-        true
-    } else {
-        named_twice(p, q, r)
-    }
-}
-
-fn some_faulty(points: &[f64], corners: &[u32]) -> bool
-    ensures { λ r. ⌜ r ≡ any (Ad.faulty (So.solid (now (points .entry)) (now (corners .entry)))) (upTo (length (now (corners .entry)) / 3)) ⌝ }
-{
-    let mut f = 0;
-    while f < corners.len() / 3 {
-        if faulty(points, corners, f) {
-            return true;
-        }
-        f += 1;
-    }
-    false
-}
 
 fn unmatched(corners: &[u32]) -> bool
     requires { ⌜ Ta.Low (now corners) × (length (now corners) ≤ 768) ⌝ }
@@ -143,13 +36,13 @@ pub fn admit(points: &[f64], corners: &[u32]) -> Verdict
     if corners.len() / 3 > 256 {
         return Verdict::Refused(Answer { number: 2 });
     }
-    if some_bad(true, points) {
+    if faults::some_bad(true, points) {
         return Verdict::Refused(Answer { number: 3 });
     }
-    if some_bad(false, points) {
+    if faults::some_bad(false, points) {
         return Verdict::Refused(Answer { number: 4 });
     }
-    if some_faulty(points, corners) {
+    if faults::some_faulty(points, corners) {
         return Verdict::Refused(Answer { number: 5 });
     }
     if unmatched(corners) {
@@ -162,10 +55,10 @@ pub fn admit(points: &[f64], corners: &[u32]) -> Verdict
 pub fn admit_point(v: Point) -> Verdict
     ensures { λ r. ⌜ Ad.AdmitPoint v r ⌝ }
 {
-    if bad_point(true, v) {
+    if faults::bad_point(true, v) {
         return Verdict::Refused(Answer { number: 3 });
     }
-    if bad_point(false, v) {
+    if faults::bad_point(false, v) {
         return Verdict::Refused(Answer { number: 4 });
     }
     Verdict::Accepted

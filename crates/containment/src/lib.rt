@@ -1,6 +1,5 @@
 // How often a solid contains a point, with the solid as A and as B, in code; and a facet's corners, from the two lists of a solid.
 use checks::admission;
-use checks::vertices;
 use crossings::Facet;
 use points::Axis;
 use points::Point;
@@ -49,9 +48,9 @@ pub fn facet_s(as_b: bool, v: Point, f: Facet) -> i32
     ensures small { λ r. ⌜ natAbs r ≤ 1 ⌝ }
 {
     if as_b {
-        vertexwise::vf(v, f).s(Axis::Z)
+        vertex_facet::vf(v, f).s(Axis::Z)
     } else {
-        vertexwise::fv(f, v).s(Axis::Z)
+        vertex_facet::fv(f, v).s(Axis::Z)
     }
 }
 

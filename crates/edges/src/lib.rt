@@ -102,7 +102,7 @@ pub fn edge_at(points: &[f64], ends: &[u32], corners: &[u32], e: usize) -> Edge
     let start = ends[2 * e] as usize;
     let end = ends[2 * e + 1] as usize;
     Edge {
-        start: checks::vertices::vertex(points, start),
-        end: checks::vertices::vertex(points, end),
+        start: vertices::vertex(points, start),
+        end: vertices::vertex(points, end),
     }
 }

@@ -1,2 +1,1 @@
 pub mod Attempted
-pub mod Numbered

@@ -1,23 +1,16 @@
 // The result of an operation on two admitted solids: its crossings are found, everything is counted, then 8 is checked, then the lent lists are
 // written.
-mod vertices;
-
-use found::Listed;
 use layouts::Plan;
+use measuring::Gathered;
 use results::Made;
 use results::Operation;
 use solids::Answer;
 ghost use mathlib.Core.Path.{_≡_};
-ghost use mathlib.Core.Bool.{true, _||_};
-ghost use Prim.Native.Nat.{_*_, _≤_};
-ghost use lib.Dec.{ltb};
-ghost use lib.IntN.{natAbs};
+ghost use Prim.Native.Nat.{_≤_};
 ghost use lib.ListN.{length};
-ghost use Rattle.sums.specs.Lists.{nonzero};
 ghost use Rattle.solids.specs.Solids as So;
 ghost use Rattle.solids.specs.Admission as Ad;
 ghost use Rattle.solids.specs.declared.Verdict.the-variants.{Accepted};
-ghost use Rattle.results.specs.Inclusion as In;
 ghost use Rattle.results.specs.Operation as Op;
 ghost use Rattle.making.specs.Attempted as At;
 
@@ -25,20 +18,6 @@ ghost use Rattle.making.specs.Attempted as At;
 pub enum Tried {
     Done(Made),
     Full,
-}
-
-// 8: "a lent list is too short for the answer", of n vertices and m triangles.
-fn too_short(points: usize, corners: usize, origins: usize, n: usize, m: usize) -> bool
-    requires { ⌜ (n ≤ 196864) × (m ≤ 1574400) ⌝ }
-    ensures { λ r. ⌜ r ≡ (ltb points (3 * n) || ltb corners (3 * m) || ltb origins m) ⌝ }
-{
-    if points < 3 * n {
-        return true;
-    }
-    if corners < 3 * m {
-        return true;
-    }
-    origins < m
 }
 
 pub fn refused(answer: Answer) -> Made
@@ -49,14 +28,6 @@ pub fn refused(answer: Answer) -> Made
         vertices: 0,
         triangles: 0,
     }
-}
-
-// cI: "union -1, intersection 1, difference -1".
-fn sign(op: Operation) -> i32
-    ensures { λ r. ⌜ r ≡ In.cI op ⌝ }
-    ensures small { λ r. ⌜ (natAbs r ≤ 1) × (nonzero r ≡ true) ⌝ }
-{
-    op.numbers().c_i
 }
 
 // The operation on admitted solids, with a list for their crossings.
@@ -76,43 +47,43 @@ pub fn attempt(
 {
     let mut ends = [0u32; 1536];
     let mut all_halves = [0u32; 4608];
-    let z = halves::sides::both(ap, ac, bp, bc, &mut ends, &mut all_halves);
     let mut first = [0u32; 641];
-    let Listed::Found(total) = found::find(sign(op), z, ap, ac, bp, bc, &ends, &mut first, crossed)
-    else {
+    let mut inc = [0i16; 256];
+    let Gathered::All(z, many) = measuring::gather(
+        op,
+        ap,
+        ac,
+        bp,
+        bc,
+        &mut ends,
+        &mut all_halves,
+        &mut first,
+        crossed,
+        &mut inc,
+    ) else {
         return Tried::Full;
     };
-    let mut inc = [0i16; 256];
-    vertices::include(op, z, ap, ac, bp, bc, &ends, &mut inc);
+    let nine = 9 * (z.fa + z.fb);
+    let halves = &all_halves[..nine];
     let mut num = [0u32; 256];
-    let n = vertices::number(z, total, &inc, &mut num);
+    let mut marks = [0u64; 5120];
+    let n = measuring::measure(z, many, &inc, &mut num, &first, crossed, halves, &mut marks);
+    let m = n.triangles;
     let plan = Plan {
         sizes: z,
         base: n.base,
     };
-    let nine = 9 * (z.fa + z.fb);
-    let mut marks = [0u64; 5120];
-    marking::fill::fill(&first, crossed, &all_halves[..nine], z, &mut marks);
-    let m = walking::count::count_triangles(
-        &inc,
-        &num,
-        &first,
-        crossed,
-        &all_halves[..nine],
-        plan,
-        &marks,
-    );
-    if too_short(points.len(), corners.len(), origins.len(), n.all, m) {
+    if numbering::too_short(points.len(), corners.len(), origins.len(), n.vertices, m) {
         return Tried::Done(refused(Answer { number: 8 }));
     }
     placing::put_points(z, ap, ac, bp, bc, &ends, &inc, &first, crossed, points);
     let mut list = [0u32; 6150];
-    walking::triangles::put_triangles(
+    triangles::put_triangles(
         &inc,
         &num,
         &first,
         crossed,
-        &all_halves[..nine],
+        halves,
         plan,
         &marks,
         &mut list,
@@ -121,7 +92,7 @@ pub fn attempt(
     );
     Tried::Done(Made {
         answer: Answer { number: 0 },
-        vertices: n.all,
+        vertices: n.vertices,
         triangles: m,
     })
 }

@@ -1,7 +1,7 @@
 // Marks by edge, from the lists of crossings; and behind them marks by facet, from those. A mark too many would do no harm.
+use ends::rows;
 use layouts::Sizes;
 use layouts::pack;
-use pieces::lines;
 ghost use mathlib.Core.Path.{_≡_};
 ghost use Prim.Native.Nat.{ℕ, _+_, _*_, _<_, _≤_};
 ghost use lib.ListN.{length, getD};
@@ -77,8 +77,8 @@ fn mark_half(halves: &[u32], z: Sizes, x: usize, h: usize, marks: &mut [u64])
     ensures spread { λ _. ⌜ K.Spread z (now (halves .entry)) (now (marks .entry)) (now (marks .exit)) x h (T.others z x) ⌝ }
     ensures more { λ _. ⌜ K.More (now (marks .entry)) (now (marks .exit)) ⌝ }
 {
-    let row = 256 * lines::line_row(halves, z, h);
-    let end = row + lines::line_many(z, h);
+    let row = 256 * rows::line_row(halves, z, h);
+    let end = row + rows::line_many(z, h);
     let here = 256 * facet_row(z, x);
     let mut i = marks::first(marks, row, end);
     while i < end {

@@ -120,12 +120,17 @@ module _ (a b : Bounds) where
       }
 
 -- ---- edges and facets
-pub in-round-edge : (e : Edge) → InEdge Number e → InEdge (In (round-edge e)) e
-unfolding round-edge
-in-round-edge e n = (
-  joined-left (dot (e .start)) (dot (e .end)) (dot-sound (e .end) (n .1)) (e .start) (dot-in (e .start) (n .0)),
-  joined-right (dot (e .start)) (dot (e .end)) (dot-sound (e .start) (n .0)) (e .end) (dot-in (e .end) (n .1)),
-)
+module _ (e : Edge) (n : InEdge Number e) where
+  pub sound-round-edge : Sound (round-edge e)
+  unfolding round-edge
+  sound-round-edge = joined-sound (dot (e .start)) (dot (e .end)) (dot-sound (e .start) (n .0)) (dot-sound (e .end) (n .1))
+
+  pub in-round-edge : InEdge (In (round-edge e)) e
+  unfolding round-edge
+  in-round-edge = (
+    joined-left (dot (e .start)) (dot (e .end)) (dot-sound (e .end) (n .1)) (e .start) (dot-in (e .start) (n .0)),
+    joined-right (dot (e .start)) (dot (e .end)) (dot-sound (e .start) (n .0)) (e .end) (dot-in (e .end) (n .1)),
+  )
 
 module _ (f : Facet) (n : InFacet Number f) where
   two : Bounds
@@ -134,6 +139,10 @@ module _ (f : Facet) (n : InFacet Number f) where
   sound-two : Sound two
   unfolding two
   sound-two = joined-sound (dot (f .p)) (dot (f .q)) (dot-sound (f .p) (n .0)) (dot-sound (f .q) (n .1))
+
+  pub sound-round-facet : Sound (round-facet f)
+  unfolding round-facet two
+  sound-round-facet = joined-sound two (dot (f .r)) sound-two (dot-sound (f .r) (n .2))
 
   pub in-round-facet : InFacet (In (round-facet f)) f
   unfolding round-facet two

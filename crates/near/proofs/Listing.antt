@@ -1,26 +1,27 @@
--- Boxes in a list, six numbers each: what is stored stands there, and the boxes before it stay.
-use mathlib.Core.Path.{_≡_, refl, sym, ap, _∙_}
-use mathlib.Core.Bool.{true, false, not, cond}
+-- Boxes in a list, six numbers each: what is stored stands there, and the boxes before it stay. Columns: those that are near a box.
+use mathlib.Core.Path.{_≡_, refl, sym, ap, ap₂, _∙_}
+use mathlib.Core.Bool.{Bool, true, false, not, cond}
 use mathlib.Core.List.{List, [], _∷_, _++_, append-nil}
 use Prim.Native.Nat.{ℕ, zero, suc, _+_, _*_, _<_, _≤_}
 use native.Mathlib.Omega.{arith}
 use native.Mathlib.Decide.{decLt}
 use native.Mathlib.Nat.{add-zero}
 use native.Mathlib.Numerals.{add-one}
-use lib.ListN.{length, getD, take, set, length-set}
-use lib.Seq.{sets, getD-set-same, getD-set-other, getD-take, take-suc-set, length-take-le}
+use lib.ListN.{length, getD, take, set, length-set, length-append}
+use lib.Seq.{sets, getD-set-same, getD-set-other, take-suc-set, length-take-le}
 use lib.Ieee.{Float, nan}
 use Rattle.sums.specs.Lists.{upTo, keep}
 use Rattle.sums.proofs.Places.{all-getD}
+use Rattle.sums.proofs.Sums.{All}
 use Rattle.sums.proofs.Tests.{all-keep}
 use Rattle.sums.proofs.UpTo.{all-upTo, length-upTo}
 use Rattle.lists.proofs.Kept.{keep-append}
 use Rattle.solids.specs.Solids.{Solid}
-use Rattle.edges.proofs.Edges.{keep-le}
 use Rattle.near.specs.declared.Bounds.{Bounds}
+use Rattle.near.specs.declared.Far.{Far}
 use Rattle.near.specs.declared.Thing.{Thing}
-use Rattle.near.specs.Boxes.{beside}
-use Rattle.near.specs.Things.{many, box-of, six, box-at, Boxed, near-to, Gathered}
+use Rattle.near.specs.Boxes.{far}
+use Rattle.near.specs.Things.{many, box-of, six, box-at, Boxed, Among, near-to, Narrowed}
 
 module _ {A : Type 0} where
   pub sets-below : (l : List A) (at : ℕ) (vs : List A) (k : ℕ) (d : A) → k < at → getD (sets l at vs) k d ≡ getD l k d
@@ -33,43 +34,6 @@ module _ {A : Type 0} where
   sets-inside l at (v ∷ vs) (suc k) d r h =
       let e : at + suc k ≡ suc at + k = omega arith in
       rw e (sets-inside (set l at v) (suc at) vs k d (omega (arith, length-set l at v)) (omega arith))
-
-near-next : (b : Bounds) (t : Thing) (s : Solid) (n : ℕ) → near-to b t s (suc n) ≡ near-to b t s n ++ cond (not (beside b (box-of t s n))) (n ∷ []) []
-unfolding near-to upTo keep
-near-next b t s n = keep-append (λ i. not (beside b (box-of t s i))) (upTo n) (n ∷ [])
-
-pub near-few : (b : Bounds) (t : Thing) (s : Solid) (n : ℕ) → length (near-to b t s n) ≤ n
-unfolding near-to
-near-few b t s n = omega (arith, keep-le (λ i. not (beside b (box-of t s i))) (upTo n), length-upTo n)
-
-pub gathered-none : (columns : List ℕ) (boxes : List Float) (b : Bounds) (t : Thing) (s : Solid) → Gathered columns boxes b t s 0 0
-unfolding near-to upTo keep
-gathered-none columns boxes b t s = record { few = omega arith; room = omega arith; front = refl; own = λ i h. absurd (omega (arith, h)) }
-
-pub gathered-no : {columns : List ℕ} {boxes : List Float} {b : Bounds} {t : Thing} {s : Solid} {n k : ℕ} → beside b (box-of t s n) ≡ true
-    → Gathered columns boxes b t s n k → Gathered columns boxes b t s (n + 1) k
-unfolding near-to keep
-gathered-no {columns} {boxes} {b} {t} {s} {n} {k} near h =
-    record {
-      few = omega (arith, h .few);
-      room = h .room;
-      front = rw (add-one n) (h .front ∙ sym (near-next b t s n ∙ ap (λ w. near-to b t s n ++ cond (not w) (n ∷ []) []) near ∙ append-nil (near-to b t s n)));
-      own = h .own;
-    }
-
--- they are columns with their boxes
-pub gathered-boxed : {columns : List ℕ} {boxes : List Float} {b : Bounds} {t : Thing} {s : Solid} {k : ℕ} → Gathered columns boxes b t s (many t s) k
-    → many t s ≤ 384 → 6 * many t s ≤ length boxes → Boxed (take k columns) boxes t s
-unfolding near-to
-gathered-boxed {columns} {boxes} {b} {t} {s} {k} h m r =
-    let long = length-take-le k columns (h .room) in
-    let there = all-keep (λ i. not (beside b (box-of t s i))) (λ i. i < many t s) (upTo (many t s)) (all-upTo (λ i. i < many t s) (many t s) (λ i l. l)) in
-    record {
-      few = omega (arith, long, h .few, m);
-      room = omega (arith, long, h .few);
-      there = λ i l. all-getD (λ i. (not (beside b (box-of t s i)) ≡ true) × (i < many t s)) (take k columns) i 0 (rw (h .front) there) l .1;
-      own = λ i l. h .own i (omega (arith, long)) ∙ ap (box-of t s) (sym (getD-take k columns i 0 (omega (arith, long))));
-    }
 
 module _ (l : List Float) (b : Bounds) (i : ℕ) (room : 6 * i + 6 ≤ length l) where
   stored : (k : ℕ) → k < 6 → getD (sets l (6 * i) (six b)) (6 * i + k) nan ≡ getD (six b) k nan
@@ -92,23 +56,74 @@ module _ (l : List Float) (b : Bounds) (i : ℕ) (room : 6 * i + 6 ≤ length l)
         high = record { x = at 3 (omega arith) j; y = at 4 (omega arith) j; z = at 5 (omega arith) j };
       }
 
-  -- ---- the boxes that are near another, one more
-  module _ (columns : List ℕ) (near : Bounds) (t : Thing) (s : Solid) (n : ℕ) (h : Gathered columns l near t s n i) where
-    pub gathered-yes : (new : List Float) → new ≡ sets l (6 * i) (six b) → b ≡ box-of t s n → beside near (box-of t s n) ≡ false → i < length columns
-        → Gathered (set columns i n) new near t s (n + 1) (i + 1)
-    unfolding near-to keep
-    gathered-yes new e d far r =
+  -- one more box
+  pub boxed-next : (box : ℕ → Bounds) (new : List Float) → new ≡ sets l (6 * i) (six b) → b ≡ box i → ((c : ℕ) → c < i → box-at l c ≡ box c) → (c : ℕ) → c < i + 1
+      → box-at new c ≡ box c
+  boxed-next box new e d h c m = elim (decLt c i) [
+    | yes q ↦ ap (λ l. box-at l c) e ∙ box-kept c q ∙ h c q
+    | no q ↦ let x : c ≡ i = omega arith in rw x (ap (λ l. box-at l i) e ∙ box-put ∙ d)
+  ]
+
+-- ---- columns that are near a box
+module _ (w : Far) (b : Bounds) (box : ℕ → Bounds) where
+  near-next : (columns : List ℕ) (c : ℕ) → near-to w b box (columns ++ (c ∷ [])) ≡ near-to w b box columns ++ cond (not (far w b (box c))) (c ∷ []) []
+  unfolding near-to keep
+  near-next columns c = keep-append (λ c. not (far w b (box c))) columns (c ∷ [])
+
+  pub narrowed-none : (few : List ℕ) → Narrowed few w b box [] 0
+  unfolding near-to keep
+  narrowed-none few = record { fits = omega arith; room = omega arith; front = refl }
+
+  module _ {few columns : List ℕ} {k : ℕ} (c : ℕ) (h : Narrowed few w b box columns k) where
+    pub narrowed-no : far w b (box c) ≡ true → Narrowed few w b box (columns ++ (c ∷ [])) k
+    narrowed-no e =
         record {
-          few = omega (arith, h .few);
-          room = omega (arith, length-set columns i n);
-          front =
-              rw (add-one i, add-one n)
-              (take-suc-set columns i n r ∙ ap (λ l. l ++ (n ∷ [])) (h .front) ∙ sym (near-next near t s n ∙ ap (λ w. near-to near t s n ++ cond (not w) (n ∷ []) []) far));
-          own = λ k m. elim (decLt k i) [
-            | yes q ↦
-                ap (λ l. box-at l k) e ∙ box-kept k q ∙ h .own k q ∙ ap (box-of t s) (sym (getD-set-other columns i k n 0 (λ x. absurd (omega (arith, x)))))
-            | no q ↦
-                let x : k ≡ i = omega arith in
-                ap (λ l. box-at l k) e ∙ rw x (box-put ∙ d ∙ ap (box-of t s) (sym (getD-set-same columns i n 0 r)))
-          ];
+          fits = omega (arith, h .fits, length-append columns (c ∷ []));
+          room = h .room;
+          front = h .front ∙ sym (near-next columns c ∙ ap (λ v. near-to w b box columns ++ cond (not v) (c ∷ []) []) e ∙ append-nil (near-to w b box columns));
         }
+
+    pub narrowed-yes : far w b (box c) ≡ false → k < length few → Narrowed (set few k c) w b box (columns ++ (c ∷ [])) (k + 1)
+    narrowed-yes e r =
+        record {
+          fits = omega (arith, h .fits, length-append columns (c ∷ []));
+          room = omega (arith, length-set few k c);
+          front =
+              rw (add-one k)
+              (take-suc-set few k c r ∙ ap (λ l. l ++ (c ∷ [])) (h .front) ∙ sym (near-next columns c ∙ ap (λ v. near-to w b box columns ++ cond (not v) (c ∷ []) []) e));
+        }
+
+pub all-places : (p : ℕ → Type 0) (l : List ℕ) → ((i : ℕ) → i < length l → p (getD l i 0)) → All p l
+all-places p [] h = tt
+all-places p (x ∷ l) h = (h 0 (omega arith), all-places p l (λ i r. h (suc i) (omega arith)))
+
+keep-same : (p q : ℕ → Bool) (l : List ℕ) → All (λ c. p c ≡ q c) l → keep p l ≡ keep q l
+unfolding keep
+keep-same p q [] h = refl
+keep-same p q (c ∷ l) h = ap₂ (λ v r. cond v (c ∷ r) r) (h .0) (keep-same p q l (h .1))
+
+module _ {t : Thing} {s : Solid} where
+  pub among-all : many t s ≤ 384 → Among (upTo (many t s)) t s
+  among-all h =
+      record {
+        few = omega (arith, length-upTo (many t s));
+        there = λ k l. all-getD (λ i. i < many t s) (upTo (many t s)) k 0 (all-upTo (λ i. i < many t s) (many t s) (λ i m. m)) l;
+      }
+
+  -- what is kept of columns are columns, and their boxes are those of the list
+  pub narrowed-among : {few columns : List ℕ} {w : Far} {b : Bounds} {box : ℕ → Bounds} {k : ℕ} → Narrowed few w b box columns k → Among columns t s → Among (take k few) t s
+  unfolding near-to
+  narrowed-among {few} {columns} {w} {b} {box} {k} h a =
+      let all = all-keep (λ c. not (far w b (box c))) (λ i. i < many t s) columns (all-places (λ i. i < many t s) columns (a .there)) in
+      record {
+        few = omega (arith, length-take-le k few (h .room), h .fits, a .few);
+        there = λ i l. all-getD (λ c. (not (far w b (box c)) ≡ true) × (c < many t s)) (take k few) i 0 (rw (h .front) all) l .1;
+      }
+
+  pub narrowed-own : {few columns : List ℕ} {boxes : List Float} {w : Far} {b : Bounds} {k : ℕ} → Narrowed few w b (box-at boxes) columns k → Boxed boxes t s → Among columns t s
+      → take k few ≡ near-to w b (box-of t s) columns
+  unfolding near-to
+  narrowed-own {few} {columns} {boxes} {w} {b} {k} h own a =
+      h .front
+      ∙ keep-same (λ c. not (far w b (box-at boxes c))) (λ c. not (far w b (box-of t s c))) columns
+      (all-places (λ c. not (far w b (box-at boxes c)) ≡ not (far w b (box-of t s c))) columns (λ i l. ap (λ x. not (far w b x)) (own .own _ (a .there i l))))

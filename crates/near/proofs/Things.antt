@@ -1,11 +1,11 @@
 -- An edge or a facet of a solid without blanks lies in its box, and in the box round all vertices.
-use mathlib.Core.Path.{_≡_, refl}
+use mathlib.Core.Path.{_≡_, refl, ap, _∙_, subst}
 use mathlib.Core.Bool.{false}
 use mathlib.Core.List.{List, [], _∷_}
-use Prim.Native.Nat.{ℕ, zero, suc, _<_}
+use Prim.Native.Nat.{ℕ, zero, suc, _+_, _-_, _/_, _<_, _≤_}
 use native.Mathlib.Omega.{arith}
 use native.Mathlib.Decide.{decLt}
-use lib.ListN.{getD}
+use lib.ListN.{length, getD}
 use lib.Ieee.{Float, isNan, neg}
 use Rattle.sums.proofs.Places.{all-getD}
 use Rattle.sums.proofs.Sums.{All}
@@ -17,10 +17,11 @@ use Rattle.solids.specs.Solids.{Solid, vertices, vertex, corner, edges, edge, f
 use Rattle.solids.proofs.Admitted.{Passed}
 use Rattle.solids.proofs.Shut.{Is-edge, all-edges}
 use Rattle.edges.specs.Words.{edge-numbered}
+use Rattle.near.specs.declared.Bounds.{Bounds}
 use Rattle.near.specs.declared.Thing.{Thing}
 use Rattle.near.specs.declared.Thing.the-variants.{Edges, Facets}
-use Rattle.near.specs.Boxes.{dot}
-use Rattle.near.specs.Things.{many, box-of, nowhere, hull, whole}
+use Rattle.near.specs.Boxes.{dot, joined}
+use Rattle.near.specs.Things.{many, box-of, nowhere, span, hull, whole}
 use Rattle.near.proofs.Inside.{Number, In, Sound, dot-in, dot-sound, joined-left, joined-right, joined-sound, in-round-edge, in-round-facet}
 
 -- ---- vertices, also beyond the list: what stands there is 0
@@ -44,24 +45,34 @@ nowhere-sound : Sound nowhere
 unfolding isNan neg
 nowhere-sound = record { low = λ k. elim k [ X ↦ refl | Y ↦ refl | Z ↦ refl ]; high = λ k. elim k [ X ↦ refl | Y ↦ refl | Z ↦ refl ] }
 
-module _ (s : Solid) (number : (i : ℕ) → Number (vertex s i)) where
-  sound-hull : (n : ℕ) → Sound (hull (s .points) n)
-  unfolding hull
-  sound-hull zero = nowhere-sound
-  sound-hull (suc n) = joined-sound (hull (s .points) n) (dot (vertex s n)) (sound-hull n) (dot-sound (vertex s n) (number n))
+-- ---- the box round boxes holds what one of them holds
+module _ (box : ℕ → Bounds) (sound : (i : ℕ) → Sound (box i)) (from : ℕ) where
+  sound-span : (n : ℕ) → Sound (span box from n)
+  unfolding span
+  sound-span zero = nowhere-sound
+  sound-span (suc n) = joined-sound (span box from n) (box (from + n)) (sound-span n) (sound (from + n))
 
-  in-hull : (n i : ℕ) → i < n → In (hull (s .points) n) (vertex s i)
-  unfolding hull
-  in-hull zero i h = absurd (omega arith)
-  in-hull (suc n) i h = elim (decLt i n) [
-    | yes l ↦ joined-left (hull (s .points) n) (dot (vertex s n)) (dot-sound (vertex s n) (number n)) (vertex s i) (in-hull n i l)
-    | no l ↦
-        let q : i ≡ n = omega arith in
-        rw q (joined-right (hull (s .points) n) (dot (vertex s n)) (sound-hull n) (vertex s n) (dot-in (vertex s n) (number n)))
+  pub in-span : (n i : ℕ) → from ≤ i → i < from + n → (v : Point) → In (box i) v → In (span box from n) v
+  unfolding span
+  in-span zero i l h v m = absurd (omega arith)
+  in-span (suc n) i l h v m = elim (decLt i (from + n)) [
+    | yes q ↦ joined-left (span box from n) (box (from + n)) (sound (from + n)) v (in-span n i l q v m)
+    | no q ↦ let e : i ≡ from + n = omega arith in joined-right (span box from n) (box (from + n)) (sound-span n) v (subst (λ i. In (box i) v) e m)
   ]
 
-  pub in-whole : (i : ℕ) → i < vertices s → In (whole s) (vertex s i)
-  in-whole i h = in-hull (vertices s) i h
+pub span-next : (box : ℕ → Bounds) (from i : ℕ) → from ≤ i → span box from (i + 1 - from) ≡ joined (span box from (i - from)) (box i)
+unfolding span
+span-next box from i h =
+    let e : i + 1 - from ≡ suc (i - from) = omega arith in
+    let d : from + (i - from) ≡ i = omega arith in
+    ap (span box from) e ∙ ap (λ n. joined (span box from (i - from)) (box n)) d
+
+pub all-hull : (points : List Float) → hull points 0 (length points / 3 - 0) ≡ hull points 0 (length points / 3)
+all-hull points = let e : length points / 3 - 0 ≡ length points / 3 = omega arith in ap (hull points 0) e
+
+module _ (s : Solid) (number : (i : ℕ) → Number (vertex s i)) (from n i : ℕ) where
+  pub in-hull : from ≤ i → i < from + n → In (hull (s .points) from n) (vertex s i)
+  in-hull l h = in-span (λ i. dot (vertex s i)) (λ i. dot-sound (vertex s i) (number i)) from n i l h (vertex s i) (dot-in (vertex s i) (number i))
 
 module _ (s : Solid) (p : Passed s) where
   pub lies-box : (t : Thing) (i : ℕ) → Lies t (In (box-of t s i)) s i
@@ -69,10 +80,13 @@ module _ (s : Solid) (p : Passed s) where
   lies-box Edges i = in-round-edge (edge s (edge-numbered s i)) (number-vertex s p _, number-vertex s p _)
   lies-box Facets i = in-round-facet (facet s i) (number-vertex s p _, number-vertex s p _, number-vertex s p _)
 
+  in-whole : (i : ℕ) → i < vertices s → In (whole s) (vertex s i)
+  in-whole i h = in-hull s (number-vertex s p) 0 (vertices s) i (omega arith) (omega arith)
+
   pub lies-whole : (t : Thing) (i : ℕ) → i < many t s → Lies t (In (whole s)) s i
   lies-whole Edges i h =
       let e = all-getD (Is-edge s) (edges s) i (0, 0) (all-edges s) h in
-      (in-whole s (number-vertex s p) (edge-numbered s i .0) (omega (arith, e .rises, e .below)), in-whole s (number-vertex s p) (edge-numbered s i .1) (e .below))
+      (in-whole (edge-numbered s i .0) (omega (arith, e .rises, e .below)), in-whole (edge-numbered s i .1) (e .below))
   lies-whole Facets i h =
       let q = p .proper i h in
-      (in-whole s (number-vertex s p) (corner s i 0) (q .below-p), in-whole s (number-vertex s p) (corner s i 1) (q .below-q), in-whole s (number-vertex s p) (corner s i 2) (q .below-r))
+      (in-whole (corner s i 0) (q .below-p), in-whole (corner s i 1) (q .below-q), in-whole (corner s i 2) (q .below-r))

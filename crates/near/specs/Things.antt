@@ -6,14 +6,15 @@ use mathlib.Core.List.{List, [], _∷_}
 use Prim.Native.Nat.{ℕ, zero, suc, _+_, _*_, _<_, _≤_}
 use lib.ListN.{length, getD, take}
 use lib.Ieee.{Float, nan, neg}
-use Rattle.sums.specs.Lists.{upTo, keep}
+use Rattle.sums.specs.Lists.{keep}
 use Rattle.solids.specs.Solids.{Solid, solid, vertices, facets, edges, vertex, edge, facet}
 use Rattle.solids.specs.Admission.{limit}
 use Rattle.edges.specs.Words.{edge-numbered}
 use Rattle.near.specs.declared.Bounds.{Bounds}
+use Rattle.near.specs.declared.Far.{Far}
 use Rattle.near.specs.declared.Thing.{Thing}
 use Rattle.near.specs.declared.Thing.the-variants.{Edges, Facets}
-use Rattle.near.specs.Boxes.{dot, joined, beside, round-edge, round-facet}
+use Rattle.near.specs.Boxes.{dot, joined, far, round-edge, round-facet}
 
 abbrev pub many : Thing → Solid → ℕ
 many Edges s = length (edges s)
@@ -27,13 +28,17 @@ box-of Facets s i = round-facet (facet s i)
 abbrev pub nowhere : Bounds
 nowhere = record { low = record { x = limit; y = limit; z = limit }; high = record { x = neg limit; y = neg limit; z = neg limit } }
 
--- the box round the first n of a list of points, and round all vertices of a solid
-unfoldable pub hull : List Float → ℕ → Bounds
-hull points zero = nowhere
-hull points (suc n) = joined (hull points n) (dot (vertex (solid points []) n))
+-- the box round n boxes, from number `from` on
+unfoldable pub span : (ℕ → Bounds) → ℕ → ℕ → Bounds
+span box from zero = nowhere
+span box from (suc n) = joined (span box from n) (box (from + n))
+
+-- round points of a list, and round all vertices of a solid
+abbrev pub hull : List Float → ℕ → ℕ → Bounds
+hull points from n = span (λ i. dot (vertex (solid points []) i)) from n
 
 abbrev pub whole : Solid → Bounds
-whole s = hull (s .points) (vertices s)
+whole s = hull (s .points) 0 (vertices s)
 
 -- ---- in a list
 abbrev pub six : Bounds → List Float
@@ -46,20 +51,22 @@ box-at l i =
       high = record { x = getD l (6 * i + 3) nan; y = getD l (6 * i + 4) nan; z = getD l (6 * i + 5) nan };
     }
 
--- each column of a list is there, and the box at its place in another list is its own
-pub record Boxed (columns : List ℕ) (boxes : List Float) (t : Thing) (s : Solid) : Type 0 where
+-- the box of each edge or facet, at its number
+pub record Boxed (boxes : List Float) (t : Thing) (s : Solid) : Type 0 where
+  pub room : 6 * many t s ≤ length boxes
+  pub own : (c : ℕ) → c < many t s → box-at boxes c ≡ box-of t s c
+
+-- ---- columns: numbers of edges or facets
+pub record Among (columns : List ℕ) (t : Thing) (s : Solid) : Type 0 where
   pub few : length columns ≤ 384
-  pub room : 6 * length columns ≤ length boxes
   pub there : (k : ℕ) → k < length columns → getD columns k 0 < many t s
-  pub own : (k : ℕ) → k < length columns → box-at boxes k ≡ box-of t s (getD columns k 0)
 
--- those of the first n whose boxes are not beside b
-unfoldable pub near-to : Bounds → Thing → Solid → ℕ → List ℕ
-near-to b t s n = keep (λ i. not (beside b (box-of t s i))) (upTo n)
+-- those whose boxes are not far from b
+unfoldable pub near-to : Far → Bounds → (ℕ → Bounds) → List ℕ → List ℕ
+near-to w b box columns = keep (λ c. not (far w b (box c))) columns
 
--- they are the first k columns of a list, and their boxes stand in another
-pub record Gathered (columns : List ℕ) (boxes : List Float) (b : Bounds) (t : Thing) (s : Solid) (n k : ℕ) : Type 0 where
-  pub few : k ≤ n
-  pub room : k ≤ length columns
-  pub front : take k columns ≡ near-to b t s n
-  pub own : (i : ℕ) → i < k → box-at boxes i ≡ box-of t s (getD columns i 0)
+-- they are the first k of a list
+pub record Narrowed (few : List ℕ) (w : Far) (b : Bounds) (box : ℕ → Bounds) (columns : List ℕ) (k : ℕ) : Type 0 where
+  pub fits : k ≤ length columns
+  pub room : k ≤ length few
+  pub front : take k few ≡ near-to w b box columns

@@ -12,7 +12,28 @@ ghost use Rattle.solids.specs.declared.Verdict.the-variants.{Accepted};
 ghost use Rattle.results.specs.Operation as Op;
 ghost use Rattle.making.specs.Attempted as At;
 
-// With a list for as many crossings as two admitted solids can have.
+// As many crossings as two admitted solids can have.
+const ROOM: usize = 196608;
+
+// The attempt that is never `Full`. It is lent an array, whose length is known by its type: where the list's zeros are in sight each need is dear.
+fn with_room(
+    op: Operation,
+    ap: &[f64],
+    ac: &[u32],
+    bp: &[f64],
+    bc: &[u32],
+    crossed: &mut [u32; ROOM],
+    points: &mut [f64],
+    corners: &mut [u32],
+    origins: &mut [u32],
+) -> Tried
+    requires { ⌜ (Ad.admission (So.solid (now ap) (now ac)) ≡ Accepted) × (Ad.admission (So.solid (now bp) (now bc)) ≡ Accepted) ⌝ }
+    ensures { λ r. ⌜ At.Attempted op (So.solid (now (ap .entry)) (now (ac .entry))) (So.solid (now (bp .entry)) (now (bc .entry))) 196608 (Op.lists (now (points .entry)) (now (corners .entry)) (now (origins .entry))) r (Op.lists (now (points .exit)) (now (corners .exit)) (now (origins .exit))) ⌝ }
+{
+    making::attempt(op, ap, ac, bp, bc, crossed, points, corners, origins)
+}
+
+// It has a list for all crossings.
 fn in_large(
     op: Operation,
     ap: &[f64],
@@ -26,12 +47,13 @@ fn in_large(
     requires { ⌜ (Ad.admission (So.solid (now ap) (now ac)) ≡ Accepted) × (Ad.admission (So.solid (now bp) (now bc)) ≡ Accepted) ⌝ }
     ensures { λ r. ⌜ At.Operated op (So.solid (now (ap .entry)) (now (ac .entry))) (So.solid (now (bp .entry)) (now (bc .entry))) (Op.lists (now (points .entry)) (now (corners .entry)) (now (origins .entry))) r (Op.lists (now (points .exit)) (now (corners .exit)) (now (origins .exit))) ⌝ }
 {
-    let mut crossed = [0u32; 196608];
-    let tried = making::attempt(op, ap, ac, bp, bc, &mut crossed, points, corners, origins);
+    let mut crossed = [0u32; ROOM];
+    let tried = with_room(op, ap, ac, bp, bc, &mut crossed, points, corners, origins);
     match tried {
         Tried::Done(made) => made,
-        // never: there is room for all
-        Tried::Full => making::refused(Answer { number: 8 }),
+        // Never: there is room for all. The call of itself keeps the compiler from putting this function, with its list, into its caller, where the
+        // list would be room on the stack of every operation.
+        Tried::Full => in_large(op, ap, ac, bp, bc, points, corners, origins),
     }
 }
 

@@ -25,8 +25,8 @@ use Rattle.results.specs.Vertices.{keys, kept}
 use Rattle.results.specs.Triangles.{listed, result}
 use Rattle.layouts.specs.Many.{sizes}
 use Rattle.layouts.specs.Rows.{columns, Listing}
-use Rattle.found.specs.Found.{count-at, row, rows}
-use Rattle.found.specs.Inside.{Included}
+use Rattle.crossing_rows.specs.Found.{count-at, row, rows}
+use Rattle.inclusions.specs.Included.{Included}
 use Rattle.placing.specs.Placed.{of-vertices, key-at, stretch, of-row, of-rows, placed}
 use Rattle.placing.proofs.Reading.{flat-places, flat-row}
 

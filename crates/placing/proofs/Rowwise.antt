@@ -18,9 +18,9 @@ use Rattle.layouts.specs.declared.Sizes.{Sizes}
 use Rattle.layouts.specs.Many.{sizes}
 use Rattle.layouts.specs.Packed.{column}
 use Rattle.layouts.specs.Rows.{columns, Columns}
-use Rattle.found.specs.declared.Row.{Row}
-use Rattle.found.specs.declared.Row.the-variants.{OfEdge, OfFacet}
-use Rattle.found.specs.Words.{row-of}
+use Rattle.crossing_rows.specs.declared.Row.{Row}
+use Rattle.crossing_rows.specs.declared.Row.the-variants.{OfEdge, OfFacet}
+use Rattle.crossing_rows.specs.Words.{row-of}
 use Rattle.placing.specs.Placed.{key-at, stretch, of-row, of-rows, width, point-on}
 use Rattle.placing.proofs.Runs.{Run, run-none, run-long, run-room, run-next, run-all}
 

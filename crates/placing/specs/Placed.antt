@@ -15,8 +15,8 @@ use Rattle.solids.specs.Solids.{Solid, vertices, facets, edges, vertex, edge, f
 use Rattle.edges.specs.Words.{edge-numbered}
 use Rattle.results.specs.Inclusion.{Key, eAfB, fAeB, place}
 use Rattle.layouts.specs.Packed.{column}
-use Rattle.found.specs.declared.Row.{Row}
-use Rattle.found.specs.declared.Row.the-variants.{OfEdge, OfFacet}
+use Rattle.crossing_rows.specs.declared.Row.{Row}
+use Rattle.crossing_rows.specs.declared.Row.the-variants.{OfEdge, OfFacet}
 
 -- ---- vertices
 

@@ -1,5 +1,5 @@
 // The points of the result, one behind the other: the vertices of A that are kept, the crossings row by row, the vertices of B that are kept.
-use found::Row;
+use crossing_rows::Row;
 use layouts::Sizes;
 use layouts::pack;
 use points::Point;
@@ -84,7 +84,7 @@ fn put_rows(
     let mut next = at;
     let mut r = 0;
     while r < rows {
-        let row = found::row_at(ap, ac, ae, z.ea, r);
+        let row = crossing_rows::row_at(ap, ac, ae, z.ea, r);
         let from = first[r] as usize;
         let to = first[r + 1] as usize;
         next = put_row(row, bp, bc, be, crossed, from, to, list, next);
@@ -106,7 +106,7 @@ fn put_vertices(vs: &[f64], inc: &[i16], from: usize, list: &mut [f64], at: usiz
     while i < many {
         let n = inc[from + i];
         if n != 0 {
-            lists::put_point(checks::vertices::vertex(vs, i), list, next);
+            lists::put_point(vertices::vertex(vs, i), list, next);
             next += 3;
         }
         i += 1;

@@ -23,9 +23,9 @@ use Rattle.results.proofs.Refusals.{by-code, then-A, then-B}
 use Rattle.housefile.specs.Reader.{Layout, fault, laid, layout}
 use Rattle.housefile.proofs.Grammar.{layout-follows}
 use Rattle.housefile.proofs.Files.{follows-within}
-use Rattle.files.specs.declared.Walk.{Walk}
-use Rattle.files.specs.Walking.{many, Found, Scanned}
-use Rattle.files.proofs.Outcomes.{even-found, too-many-found, points-front, corners-front, few}
+use Rattle.housefile_reader.specs.declared.Walk.{Walk}
+use Rattle.housefile_reader.specs.Walking.{many, Found, Scanned}
+use Rattle.housefile_reader.proofs.Outcomes.{even-found, too-many-found, points-front, corners-front, few}
 use Rattle.line.specs.Line.{room, of-files}
 use Rattle.programs.specs.Words.{front, kept-admission, of-walks, of-bytes}
 

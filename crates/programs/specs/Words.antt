@@ -1,9 +1,7 @@
--- Words of contracts between functions of this crate; no public statement needs them. What the fronts of two walks' lists come to, and a text
--- with more behind it.
-use mathlib.Core.Path.{_≡_}
+-- Words of contracts between functions of this crate; no public statement needs them. What the fronts of two walks' lists come to.
 use mathlib.Core.Bool.{true, cond}
-use mathlib.Core.List.{List, [], _∷_, _++_}
-use Prim.Native.Nat.{ℕ, _+_, _*_}
+use mathlib.Core.List.{List, [], _∷_}
+use Prim.Native.Nat.{ℕ, _*_}
 use lib.ListN.{length, take}
 use lib.Ieee.{Float}
 use Rattle.solids.specs.declared.Verdict.{Verdict}
@@ -14,11 +12,9 @@ use Rattle.solids.specs.Admission.{admission}
 use Rattle.results.specs.declared.Operation.{Operation}
 use Rattle.results.specs.Operation.{Outcome, refusal, operation}
 use Rattle.housefile.specs.Reader.{layout}
-use Rattle.files.specs.declared.Walk.{Walk}
-use Rattle.files.specs.Walking.{many}
+use Rattle.housefile_reader.specs.declared.Walk.{Walk}
+use Rattle.housefile_reader.specs.Walking.{many}
 use Rattle.line.specs.Line.{room, behind, of-files}
-use Rattle.programs.specs.declared.Text.{Text}
-use Rattle.programs.specs.Answers.{text}
 
 -- a file's solid, in the fronts of what a walk kept
 abbrev pub front : Walk → List Float → List ℕ → Solid
@@ -40,10 +36,3 @@ of-walks code w ps cs v qs ds =
 -- two files behind each other
 unfoldable pub of-bytes : Operation → List ℕ → Outcome
 of-bytes op bs = let first = layout bs in of-files op first (layout (behind first bs)) (length bs)
-
--- ---- texts
-
--- r says what t says, and l behind it
-pub record Then (t : Text) (l : List ℕ) (r : Text) : Type 0 where
-  pub longer : r .used ≡ t .used + length l
-  pub says : (before : List ℕ) → t ≡ text before → r ≡ text (before ++ l)

@@ -1,8 +1,7 @@
 // What an input comes to, by its letter and the bytes behind it: the two files, and the operation on their solids.
 
 use checks::admission;
-use files::Walk;
-use files::reader;
+use housefile_reader::Walk;
 use results::Made;
 use solids::Answer;
 use solids::Verdict;
@@ -14,7 +13,7 @@ ghost use Rattle.results.specs.declared.Chosen.the-variants.{Known};
 ghost use Rattle.results.specs.Inclusion as In;
 ghost use Rattle.results.specs.Operation as Op;
 ghost use Rattle.line.specs.Line as Li;
-ghost use Rattle.programs.specs.Answers as An;
+ghost use Rattle.line.specs.Answers as An;
 ghost use Rattle.programs.specs.Words as Wo;
 
 pub fn refused(answer: Answer) -> Made
@@ -97,14 +96,14 @@ fn of_bytes(code: u32, bytes: &[u8]) -> Made
 {
     let mut ap = [0.0f64; 384];
     let mut ac = [0u32; 768];
-    let first = reader::scan(bytes, &mut ap, &mut ac);
+    let first = housefile_reader::scan(bytes, &mut ap, &mut ac);
     if first.fault {
         return refused(Answer { number: 9 });
     }
     let used = first.used;
     let mut bp = [0.0f64; 384];
     let mut bc = [0u32; 768];
-    let second = reader::scan(&bytes[used..], &mut bp, &mut bc);
+    let second = housefile_reader::scan(&bytes[used..], &mut bp, &mut bc);
     if second.fault {
         return refused(Answer { number: 9 });
     }

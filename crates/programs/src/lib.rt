@@ -1,16 +1,10 @@
 // What the program `solid` prints, as a function of its input: what the two files come to, and the line that says so.
 mod inputs;
-mod printing;
 
+use line::Text;
 use results::Made;
 use solids::Answer;
-ghost use Rattle.programs.specs.Answers as An;
-
-// A text is the first `used` of its bytes, which have room for a line of three numbers of any size; behind it are zeros.
-pub struct Text {
-    pub bytes: [u8; 64],
-    pub used: usize,
-}
+ghost use Rattle.line.specs.Answers as An;
 
 // The three numbers that the program prints.
 pub fn outcome(input: &[u8]) -> Made

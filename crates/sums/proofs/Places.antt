@@ -3,13 +3,13 @@ use mathlib.Core.Path.{_≡_, refl, sym, ap, _∙_, subst}
 use mathlib.Core.Logic.{_≢_, _⊎_, inl, inr}
 use mathlib.Core.Bool.{Bool, true, false, cond}
 use mathlib.Core.List.{List, [], _∷_, _++_, map, flatMap, map-map, append-assoc, append-nil, List·Memᴰ, List·Memᴰ·head, List·Memᴰ·tail, List·Memᴰ·cases-cons, List·Memᴰ·not-nil}
-use Prim.Native.Nat.{ℕ, zero, suc, _+_, _*_, _<_}
+use Prim.Native.Nat.{ℕ, zero, suc, _+_, _*_, _-_, _<_}
 use native.Mathlib.Nat.{add-zero, add-suc}
 use native.Mathlib.Omega.{arith}
 use native.Mathlib.Decide.{decLt}
 use lib.Dec.{T}
-use lib.ListN.{length, getD, take, length-append, length-map, List·getD-append, List·getD-map}
-use lib.Seq.{getD-append-add, getD-at}
+use lib.ListN.{length, getD, take, drop, length-append, length-drop, length-map, List·getD-append, List·getD-map}
+use lib.Seq.{getD-append-add, getD-at, take-all}
 use Rattle.sums.specs.Lists.{upTo, keep, before}
 use Rattle.sums.proofs.Sums.{All, all-at, getD-within}
 use Rattle.sums.proofs.Tests.{T-of}
@@ -125,3 +125,7 @@ kept-map f p (x ∷ l) = go (p (f x)) (kept-map f p l)
     go : (b : Bool) → length (keep p (map f l)) ≡ length (keep (λ x. p (f x)) l) → length (cond b (f x ∷ keep p (map f l)) (keep p (map f l))) ≡ length (cond b (x ∷ keep (λ x. p (f x)) l) (keep (λ x. p (f x)) l))
     go true e = ap suc e
     go false e = e
+
+-- all that is left behind i
+pub rest-all : (i : ℕ) (l : List ℕ) → take (length l - i) (drop i l) ≡ drop i l
+rest-all i l = take-all (length l - i) (drop i l) (omega (arith, length-drop i l))

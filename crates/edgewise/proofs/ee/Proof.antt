@@ -2,7 +2,7 @@
 use native.Mathlib.Omega.{arith}
 use borrow.Author.Needs.{needs}
 use Rattle.crossings.specs.Crossings.{ee}
-use Rattle.vertexwise.proofs.Gathering.{none, one-more, one-less, all-of, sized}
+use Rattle.gathering.proofs.Gathering.{none, one-more, one-less, all-of, sized}
 use Rattle.crossings.proofs.Sizes.{small-ee}
 use Rattle.edgewise.proofs.ee.Statement.{statement}
 use Rattle.edgewise.proofs.ee.Tie as tie

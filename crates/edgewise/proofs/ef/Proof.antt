@@ -2,7 +2,7 @@
 use native.Mathlib.Omega.{arith}
 use borrow.Author.Needs.{needs}
 use Rattle.crossings.specs.Crossings.{ef, ee}
-use Rattle.vertexwise.proofs.Gathering.{none, one-more, one-less, half-less, all-of, sized}
+use Rattle.gathering.proofs.Gathering.{none, one-more, one-less, half-less, all-of, sized}
 use Rattle.crossings.proofs.Sizes.{two-ef}
 use Rattle.edgewise.proofs.ef.Statement.{statement}
 use Rattle.edgewise.proofs.ef.Tie as tie

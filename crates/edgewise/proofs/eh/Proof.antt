@@ -1,7 +1,7 @@
 -- `eh` meets its contract: what `ee` gives for the edge, signed.
 use borrow.Author.Needs.{needs}
 use Rattle.crossings.specs.Crossings.{ee}
-use Rattle.vertexwise.proofs.Gathering.{half-at}
+use Rattle.gathering.proofs.Gathering.{half-at}
 use Rattle.edgewise.proofs.eh.Statement.{statement}
 use Rattle.edgewise.proofs.eh.Tie as tie
 

@@ -13,12 +13,13 @@ use Rattle.layouts.specs.declared.Sizes.{Sizes}
 use Rattle.near.specs.declared.Bounds.{Bounds}
 use Rattle.near.specs.declared.Thing.the-variants.{Edges, Facets}
 use Rattle.near.specs.Things.{whole}
-use Rattle.found.specs.declared.Listed.{Listed}
-use Rattle.found.specs.declared.Listed.the-variants.{Found, Full}
-use Rattle.found.specs.Found.{row, rows, Answered}
+use Rattle.near.proofs.Things.{all-hull}
+use Rattle.crossing_rows.specs.declared.Listed.{Listed}
+use Rattle.crossing_rows.specs.declared.Listed.the-variants.{Found, Full}
+use Rattle.crossing_rows.specs.Found.{row, rows, Answered}
 use Rattle.found.specs.Words.{Both, Searching, Reached}
-use Rattle.found.proofs.Listings.{below, below-within, listing-none}
-use Rattle.found.proofs.Rowwise.{across-edge, across-facet}
+use Rattle.crossing_rows.proofs.Listings.{below, below-within, listing-none}
+use Rattle.crossing_rows.proofs.Rowwise.{across-edge, across-facet}
 use borrow.Author.Needs.{needs}
 use Rattle.found.proofs.find.Statement.{statement}
 use Rattle.found.proofs.find.Tie as tie
@@ -57,13 +58,12 @@ module _ (s : tie.Start) where
   of-rows : z .ea + z .fa ≡ rows one other
   of-rows = ap (λ (z : Sizes). z .ea + z .fa) (s .pre .1 .1 .1 .0 .0)
 
-  module _ (p q : Bounds) (e : p ≡ whole one) (d : q ≡ whole other) where
-    rows-of-edges : Searching (record { sign = sign; own = p; other = q; thing = Facets; many = z .fb; edges = z .ea; begin = 0; end = z .ea }) one other
+  module _ (q : Bounds) (d : q ≡ whole other) where
+    rows-of-edges : Searching (record { sign = sign; other = q; thing = Facets; many = z .fb; edges = z .ea; begin = 0; end = z .ea }) one other
     rows-of-edges =
         record {
           small = rw back (s .pre .1 .1 .0 .0);
           signed = rw back (s .pre .1 .1 .0 .1);
-          own = e;
           other = d;
           many = ap (λ (z : Sizes). z .fb) (s .pre .1 .1 .1 .0 .0);
           edges = of-edges;
@@ -72,12 +72,11 @@ module _ (s : tie.Start) where
           kind = λ r from to. across-edge one other r (omega (arith, to, of-edges));
         }
 
-    rows-of-facets : Searching (record { sign = sign; own = p; other = q; thing = Edges; many = z .eb; edges = z .ea; begin = z .ea; end = z .ea + z .fa }) one other
+    rows-of-facets : Searching (record { sign = sign; other = q; thing = Edges; many = z .eb; edges = z .ea; begin = z .ea; end = z .ea + z .fa }) one other
     rows-of-facets =
         record {
           small = rw back (s .pre .1 .1 .0 .0);
           signed = rw back (s .pre .1 .1 .0 .1);
-          own = e;
           other = d;
           many = ap (λ (z : Sizes). z .eb) (s .pre .1 .1 .1 .0 .0);
           edges = of-edges;
@@ -90,10 +89,10 @@ slice-write-first : tie.Need-slice-write-first
 slice-write-first c = search needs
 
 hull-requires : tie.Need-hull-requires
-hull-requires c κs = c .before .before .before .before .before .before .before .pre .0 .0 .few-points
+hull-requires c κs = search needs
 
 hull-requires-2 : tie.Need-hull-requires-2
-hull-requires-2 c κs = c .before .before .before .before .before .before .before .before .pre .0 .1 .few-points
+hull-requires-2 c κs = search needs
 
 find-kind-requires : tie.Need-find-kind-requires
 find-kind-requires c κs =
@@ -102,10 +101,13 @@ find-kind-requires c κs =
     let long = length-set (s .args .first .now) 0 0 in (
       both s,
       (
-        rows-of-edges s (c .before .before .before .hull .result) (c .before .before .hull2 .result) (c .before .before .before .hull .ensures) (c .before .before .hull2 .ensures),
+        rows-of-edges s (c .before .before .hull2 .result) (c .before .before .hull2 .ensures ∙ all-hull (s .args .bp .now)),
         (
-          (omega (arith, room .0, long), omega (arith, room .1, long), room .2),
-          listing-none (of-A s) (s .args .first .now) (s .args .crossed .now) (omega (arith, room .0)),
+          c .before .before .before .hull .ensures ∙ all-hull (s .args .ap .now),
+          (
+            (omega (arith, room .0, long), omega (arith, room .1, long), room .2),
+            listing-none (of-A s) (s .args .first .now) (s .args .crossed .now) (omega (arith, room .0)),
+          ),
         ),
       ),
     )
@@ -127,13 +129,13 @@ returns : tie.Need-returns
 returns c =
     let s = c .before .before .before .before .before .before .before .before .before .before .before .before .before .before .before .before .before .before in
     let x = c .before .before .before .before .before .before .find-kind in
-    let new = x .last .1 .1 .1 .1 .1 .1 .1 .0 in
-    let h = subst (Reached (sign s) (one s) (other s) (z s .ea) (x .last .1 .1 .1 .1 .1 .1 .0) new) (c .enum-told .given .1) (x .ensures .0) in
+    let new = x .last .1 .1 .1 .1 .1 .1 .1 .1 .0 in
+    let h = subst (Reached (sign s) (one s) (other s) (z s .ea) (x .last .1 .1 .1 .1 .1 .1 .1 .0) new) (c .enum-told .given .1) (x .ensures .0) in
     let g : length new < length (below (of-A s) (rows (one s) (other s))) = omega (arith, h, below-within (of-A s) (z s .ea) (rows (one s) (other s)) (omega (arith, of-rows s))) in
     (subst (λ x. length new < length (below (row x (one s) (other s)) (rows (one s) (other s)))) (back s) g, (x .ensures .1 .0 ∙ length-set (s .args .first .now) 0 0, x .ensures .1 .1))
 
-add-t22 : tie.Need-add-t22
-add-t22 c =
+add-t16 : tie.Need-add-t16
+add-t16 c =
     let n = c .before .before .before .before .before .before .before .before .before .before .before .before .before .before .before .before .before .before .before .before .pre .1 .1 .1 .0 .1 in record { fits = omega (arith, n .ea, n .fa) }
 
 find-kind-requires-2 : tie.Need-find-kind-requires-2
@@ -142,13 +144,13 @@ find-kind-requires-2 c κs =
     let room = s .pre .1 .1 .1 .1 in
     let x = c .before .before .before .before .before .before .before .before .before .before .find-kind in
     let long = x .ensures .1 .0 ∙ length-set (s .args .first .now) 0 0 in
-    let first = x .last .1 .1 .1 .1 .1 .1 .0 in
-    let crossed = x .last .1 .1 .1 .1 .1 .1 .1 .0 in
+    let first = x .last .1 .1 .1 .1 .1 .1 .1 .0 in
+    let crossed = x .last .1 .1 .1 .1 .1 .1 .1 .1 .0 in
     let h = subst (Reached (sign s) (one s) (other s) (z s .ea) first crossed) (c .before .before .before .before .total .given .1) (x .ensures .0) in (
       both s,
       (
-        rows-of-facets s (c .before .before .before .before .before .before .before .before .before .before .before .before .before .before .hull .result) (c .before .before .before .before .before .before .before .before .before .before .before .before .before .hull2 .result) (c .before .before .before .before .before .before .before .before .before .before .before .before .before .before .hull .ensures) (c .before .before .before .before .before .before .before .before .before .before .before .before .before .hull2 .ensures),
-        ((omega (arith, room .0, long), omega (arith, room .1, long), omega (arith, room .2, x .ensures .1 .1)), h .1),
+        rows-of-facets s (c .before .before .before .before .before .before .before .before .before .before .before .before .before .hull2 .result) (c .before .before .before .before .before .before .before .before .before .before .before .before .before .hull2 .ensures ∙ all-hull (s .args .bp .now)),
+        (c .before .before .before .before .before .before .before .before .before .before .before .before .before .before .hull .ensures ∙ all-hull (s .args .ap .now), ((omega (arith, room .0, long), omega (arith, room .1, long), omega (arith, room .2, x .ensures .1 .1)), h .1)),
       ),
     )
 
@@ -165,8 +167,8 @@ returns-2 c =
     let s = c .before .before .before .before .before .before .before .before .before .before .before .before .before .before .before .before .before .before .before .before .before .before .before .before .before .before .before in
     let x = c .before .before .before .before .before .before .before .before .before .before .before .before .before .before .before .find-kind in
     let y = c .before .before .before .before .find-kind2 in
-    let first = y .last .1 .1 .1 .1 .1 .1 .0 in
-    let crossed = y .last .1 .1 .1 .1 .1 .1 .1 .0 in
+    let first = y .last .1 .1 .1 .1 .1 .1 .1 .0 in
+    let crossed = y .last .1 .1 .1 .1 .1 .1 .1 .1 .0 in
     let h = subst (λ n. Reached (sign s) (one s) (other s) n first crossed (y .result)) (of-rows s) (y .ensures .0) in (
       answered (s .args .sign) (one s) (other s) first crossed (y .result) (subst (λ x. Reached x (one s) (other s) (rows (one s) (other s)) first crossed (y .result)) (back s) h),
       (y .ensures .1 .0 ∙ x .ensures .1 .0 ∙ length-set (s .args .first .now) 0 0, y .ensures .1 .1 ∙ x .ensures .1 .1),
@@ -185,7 +187,7 @@ find-spec =
     same-length
     same-length-2
     returns
-    add-t22
+    add-t16
     find-kind-requires-2
     same-length-3
     same-length-4

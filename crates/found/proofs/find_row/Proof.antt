@@ -16,12 +16,13 @@ use Rattle.sums.proofs.Widths.{back-32}
 use Rattle.sums.proofs.Tests.{not-false}
 use Rattle.solids.specs.Solids.{Solid, solid}
 use Rattle.solids.proofs.Admitted.{passed}
-use Rattle.near.specs.Boxes.{apart}
-use Rattle.near.specs.Things.{box-of, whole}
-use Rattle.near.proofs.Things.{lies-box, lies-whole}
-use Rattle.found.specs.Words.{round, across, count-of, crossing, Behind, Added}
-use Rattle.found.proofs.Listings.{all-places, crossing-none, crossing-skip, crossing-next, crossing-within, behind-none, behind-then}
-use Rattle.found.proofs.Rowwise.{many-few, in-round, no-count}
+use Rattle.near.specs.declared.Far.the-variants.{Apart}
+use Rattle.near.specs.Boxes.{apart, far}
+use Rattle.near.specs.Things.{box-of}
+use Rattle.near.proofs.Things.{lies-box}
+use Rattle.crossing_rows.specs.Words.{round, across, count-of, crossing, Behind, Added}
+use Rattle.crossing_rows.proofs.Listings.{crossing-skip, crossing-next, crossing-within, behind-none, behind-then}
+use Rattle.crossing_rows.proofs.Rowwise.{in-round, no-count, none-crossed}
 use borrow.Author.Needs.{needs}
 use Rattle.found.proofs.find_row.Statement.{statement}
 use Rattle.found.proofs.find_row.Tie as tie
@@ -44,16 +45,9 @@ of-row s = count-of (s .args .row) (other s)
 back : (s : Start) → toZ w32 (ofZ w32 (s .args .search .sign)) ≡ s .args .search .sign
 back s = back-32 (s .args .search .sign) (omega (arith, s .pre .1 .0 .0))
 
--- nothing is crossed where the boxes are apart: all of B's, or one column's
-none-whole : (s : Start) → apart (round (s .args .row)) (whole (other s)) ≡ true → crossing (s .args .search .sign) (of-row s) (s .args .columns .now) ≡ []
-none-whole s h =
-    let b = other s in
-    let row = s .args .row in
-    crossing-none (s .args .search .sign) (of-row s) (s .args .columns .now)
-    (all-places (λ c. of-row s c ≡ pos 0) (s .args .columns .now)
-    (λ i l. no-count row b _ (round row) (whole b) h (in-round row (s .pre .0 .2)) (lies-whole b (passed b (s .pre .0 .1)) (across row) _ (s .pre .1 .1 .0 .there i l))))
-
-none-column : (s : Start) (c : ℕ) → apart (round (s .args .row)) (box-of (across (s .args .row)) (other s) c) ≡ true → of-row s c ≡ pos 0
+-- nothing is crossed where the boxes are apart
+none-column : (s : Start) (c : ℕ) → far Apart (round (s .args .row)) (box-of (across (s .args .row)) (other s) c) ≡ true → of-row s c ≡ pos 0
+unfolding far
 none-column s c h =
     let b = other s in
     let row = s .args .row in
@@ -91,34 +85,33 @@ apart-requires c κs = search needs
 returns : tie.Need-returns Inv-loop μ-loop
 returns c =
     let s = c .before .before .before .before .before .before .before .before .before in
+    let b = other s in
+    let row = s .args .row in
     let e = ap₂ apart (sym (c .before .before .round .ensures)) (sym (s .pre .1 .0 .1)) ∙ sym (c .before .apart .ensures) ∙ c .if1 .taken in
-    (rw (none-whole s e) (behind-none (s .args .crossed .now) (s .args .from) (s .pre .1 .1 .1)), refl)
+    (rw (none-crossed (s .args .search .sign) row b (passed b (s .pre .0 .1)) (round row) e (in-round row (s .pre .0 .2)) (s .pre .1 .1 .1)) (behind-none (s .args .crossed .now) (s .args .from) (s .pre .1 .1 .2)), refl)
 
 loop-holds : tie.Need-loop-holds Inv-loop μ-loop
 unfolding keep
 loop-holds c =
-    let s = c .before .before .before .before .before .before .before .before .before in (omega arith, refl, behind-none (s .args .crossed .now) (s .args .from) (s .pre .1 .1 .1))
-
-apart-at-requires : tie.Need-apart-at-requires Inv-loop μ-loop
-apart-at-requires c κs =
-    let s = c .before .before .before .before .before .before .before .before .before .before .before in omega (arith, c .loop-test .taken, s .pre .1 .1 .0 .room)
+    let s = c .before .before .before .before .before .before .before .before .before in (omega arith, refl, behind-none (s .args .crossed .now) (s .args .from) (s .pre .1 .1 .2))
 
 mul-column : tie.Need-mul-column Inv-loop μ-loop
-mul-column c =
-    let s = c .before .before .before .before .before .before .before .before .before .before .before .before .before in record { fits = omega (arith, c .before .before .loop-test .taken, s .pre .1 .1 .0 .few) }
+mul-column c = record { fits = omega (arith, c .loop-test .taken, c .before .before .before .before .before .before .before .before .before .before .before .pre .1 .1 .1 .few) }
 
 shared-slice-read-column : tie.Need-shared-slice-read-column Inv-loop μ-loop
 shared-slice-read-column c = search needs
 
 cast-column : tie.Need-cast-column Inv-loop μ-loop
-cast-column c =
-    let s = c .before .before .before .before .before .before .before .before .before .before .before .before .before .before in record { fits = omega (arith, s .pre .1 .1 .0 .there (c .before .before .before .before .loop .i) (c .before .before .before .loop-test .taken), many-few (s .pre .0 .0) (across (s .args .row))) }
+cast-column c = record { fits = omega (arith, c .shared-slice-known6 .given (c .before .before .loop .i)) }
+
+far-at-requires : tie.Need-far-at-requires Inv-loop μ-loop
+far-at-requires c κs = let s = c .before .before .before .before .before .before .before .before .before .before .before .before in omega (arith, s .pre .1 .1 .0 .room, s .pre .1 .1 .1 .there (c .before .before .loop .i) (c .before .loop-test .taken))
 
 add-requires : tie.Need-add-requires Inv-loop μ-loop
 add-requires c κs =
     let s = c .before .before .before .before .before .before .before .before .before .before .before .before .before .before .before .before in
     let l = c .before .before .before .before .before .before .loop in
-    ((s .pre .0 .0, s .pre .1 .1 .0 .there (l .i) (c .before .before .before .before .before .loop-test .taken)), (rw (back s) (s .pre .1 .0 .0), l .inv .2 .room, omega (arith, l .inv .1, s .pre .1 .1 .2)))
+    ((s .pre .0 .0, s .pre .1 .1 .1 .there (l .i) (c .before .before .before .before .before .loop-test .taken)), (rw (back s) (s .pre .1 .0 .0), l .inv .2 .room, omega (arith, l .inv .1, s .pre .1 .1 .3)))
 
 enum-known-next : tie.Need-enum-known-next Inv-loop μ-loop
 enum-known-next c = search needs
@@ -148,21 +141,22 @@ loop-less c = search needs
 loop-again : tie.Need-loop-again Inv-loop μ-loop
 unfolding keep
 loop-again c =
-    let s = c .before .before .before .before .before .before .before .before .before .before .before .before .before in
-    let l = c .before .before .before .loop in
-    let t = c .before .before .loop-test .taken in
+    let s = c .before .before .before .before .before .before .before .before .before .before .before .before .before .before in
+    let l = c .before .before .before .before .loop in
+    let t = c .before .before .before .loop-test .taken in
     let columns = s .args .columns .now in
     let column = getD columns (l .i) 0 in
     let sign = s .args .search .sign in
     ⊎-elim
     (λ w.
-    let x = w .4 in
+    let x = w .3 in
     let new = x .last .1 .1 .1 .1 .1 .1 .1 .0 in
     let g = subst (λ sign. Added (l .crossed) (l .k) (crossing sign (of-row s) (column ∷ [])) new (x .result)) (back s) (x .ensures .0) in
-    let h = subst (Added (l .crossed) (l .k) (crossing sign (of-row s) (column ∷ [])) new) (w .8 .given .1) g in
-    rw (w .10, w .11) (omega (arith, t), x .ensures .1 ∙ l .inv .1, more s (l .i) t (l .inv .2) h))
+    let h = subst (Added (l .crossed) (l .k) (crossing sign (of-row s) (column ∷ [])) new) (w .7 .given .1) g in
+    rw (w .9, w .10) (omega (arith, t), x .ensures .1 ∙ l .inv .1, more s (l .i) t (l .inv .2) h))
     (λ w.
-    let e = ap₂ apart (sym (c .before .before .before .before .before .before .round .ensures)) (sym (s .pre .1 .1 .0 .own (l .i) t)) ∙ sym (c .before .apart-at .ensures) ∙ not-false (c .before .apart-at .result) (w .0 .left) in
+    let own = s .pre .1 .1 .0 .own column (s .pre .1 .1 .1 .there (l .i) t) in
+    let e = ap₂ (far Apart) (sym (c .before .before .before .before .before .before .before .round .ensures)) (sym own) ∙ sym (c .before .far-at .ensures) ∙ not-false (c .before .far-at .result) (w .0 .left) in
     let none = crossing-skip sign (of-row s) column [] (none-column s column e) in
     rw (w .1, w .2) (omega (arith, t), l .inv .1, more s (l .i) t (l .inv .2) (rw none (behind-none (l .crossed) (l .k) (l .inv .2 .room)))))
     (c .if2 .came)
@@ -188,10 +182,10 @@ find-row-spec =
     apart-requires
     returns
     loop-holds
-    apart-at-requires
     mul-column
     shared-slice-read-column
     cast-column
+    far-at-requires
     add-requires
     enum-known-next
     enum-told

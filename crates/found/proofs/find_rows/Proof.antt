@@ -1,5 +1,5 @@
 -- `find_rows` meets its contract: the rows below r are listed.
-use mathlib.Core.Path.{_≡_, refl, sym, ap, ap₂, _∙_, subst}
+use mathlib.Core.Path.{_≡_, refl, sym, ap, _∙_, subst}
 use mathlib.Core.List.{List}
 use Prim.Native.Nat.{ℕ, _+_, _-_, _<_, _≤_}
 use native.Mathlib.Omega.{arith}
@@ -9,13 +9,14 @@ use lib.ListN.{length, getD, length-set}
 use Rattle.solids.specs.Solids.{Solid, solid}
 use Rattle.solids.proofs.Admitted.{passed}
 use Rattle.layouts.specs.Rows.{Listing}
-use Rattle.near.specs.Things.{many, whole, near-to, Boxed}
-use Rattle.found.specs.declared.Listed.{Listed}
-use Rattle.found.specs.declared.Row.{Row}
-use Rattle.found.specs.Found.{row}
-use Rattle.found.specs.Words.{across, count-of, row-of, crossing, Added}
-use Rattle.found.proofs.Listings.{rest-all, below, below-next, below-within, listing-next}
-use Rattle.found.proofs.Rowwise.{row-present, row-near}
+use Rattle.near.specs.Things.{Boxed, Among}
+use Rattle.crossing_rows.specs.declared.Listed.{Listed}
+use Rattle.crossing_rows.specs.declared.Row.{Row}
+use Rattle.crossing_rows.specs.Found.{row}
+use Rattle.crossing_rows.specs.Words.{across, count-of, row-of, crossing, Added}
+use Rattle.sums.proofs.Places.{rest-all}
+use Rattle.crossing_rows.proofs.Listings.{below, below-next, below-within, listing-next}
+use Rattle.crossing_rows.proofs.Rowwise.{row-present}
 use borrow.Author.Needs.{needs}
 use Rattle.found.proofs.find_rows.Statement.{statement}
 use Rattle.found.proofs.find_rows.Tie as tie
@@ -41,23 +42,17 @@ module _ (s : tie.Start Inv-loop μ-loop) where
     kind : across (row-of one r) ≡ s .args .search .thing
     kind = s .pre .1 .0 .kind r from to
 
-    boxed : Boxed (s .args .columns .now) (s .args .boxes .now) (across (row-of one r)) other
-    boxed = subst (λ t. Boxed (s .args .columns .now) (s .args .boxes .now) t other) (sym kind) (s .pre .1 .1 .0 .0)
+    boxed : Boxed (s .args .boxes .now) (across (row-of one r)) other
+    boxed = subst (λ t. Boxed (s .args .boxes .now) t other) (sym kind) (s .pre .1 .1 .0 .boxed)
 
-    -- what the near columns cross is the row
-    near : crossing (s .args .search .sign) (count-of (row-of one r) other) (s .args .columns .now) ≡ of-A r
-    near =
-        let q = s .pre .1 .0 in
-        ap (crossing (s .args .search .sign) (count-of (row-of one r) other))
-        (s .pre .1 .1 .0 .1 ∙ ap₂ (λ b n. near-to b (s .args .search .thing) other n) (q .own) (q .many))
-        ∙ subst (λ t. crossing (s .args .search .sign) (count-of (row-of one r) other) (near-to (whole one) t other (many t other)) ≡ of-A r) kind
-        (row-near one other r (passed one (s .pre .0 .passed-a)) (passed other (s .pre .0 .passed-b)) (s .args .search .sign) (omega (arith, to, q .end)))
+    among : Among (s .args .columns .now) (across (row-of one r)) other
+    among = subst (λ t. Among (s .args .columns .now) t other) (sym kind) (s .pre .1 .1 .0 .among)
 
-    added : (old new : List ℕ) (from : ℕ) (w : Row) (x : Listed) → w ≡ row-of one r → Added old from (crossing (s .args .search .sign) (count-of w other) (s .args .columns .now)) new x
-        → Added old from (of-A r) new x
-    added old new from w x e h =
-        subst (λ m. Added old from m new x) near
-        (subst (λ w. Added old from (crossing (s .args .search .sign) (count-of w other) (s .args .columns .now)) new x) e h)
+    added : (old new : List ℕ) (at : ℕ) (w : Row) (x : Listed) → w ≡ row-of one r → Added old at (crossing (s .args .search .sign) (count-of w other) (s .args .columns .now)) new x
+        → Added old at (of-A r) new x
+    added old new at w x e h =
+        subst (λ m. Added old at m new x) (s .pre .1 .1 .0 .enough r from to)
+        (subst (λ w. Added old at (crossing (s .args .search .sign) (count-of w other) (s .args .columns .now)) new x) e h)
 
 loop-holds : tie.Need-loop-holds Inv-loop μ-loop
 loop-holds c =
@@ -101,7 +96,7 @@ find-row-requires c κs =
     let b = other s in
     rw (c .before .before .before .row-at .ensures, rest-all 768 (s .args .ends .now)) (
       (s .pre .0 .ready-b, s .pre .0 .passed-b, row-present (one s) b (l .r) (passed (one s) (s .pre .0 .passed-a)) (passed b (s .pre .0 .passed-b))),
-      ((q .small, q .other), (boxed s (l .r) (l .inv .0) (c .before .before .before .before .before .if1 .taken), omega (arith, l .inv .4 .starts (l .r) (omega arith), l .inv .4 .room), omega (arith, l .inv .3, s .pre .1 .1 .1 .0 .2))),
+      ((q .small, q .other), (boxed s (l .r) (l .inv .0) (c .before .before .before .before .before .if1 .taken), among s (l .r) (l .inv .0) (c .before .before .before .before .before .if1 .taken), omega (arith, l .inv .4 .starts (l .r) (omega arith), l .inv .4 .room), omega (arith, l .inv .3, s .pre .1 .1 .1 .0 .2))),
     )
 
 enum-known-next : tie.Need-enum-known-next Inv-loop μ-loop

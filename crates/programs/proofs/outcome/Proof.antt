@@ -6,7 +6,7 @@ use lib.Seq.{take-all}
 use lib.ListN.{length, drop, length-drop}
 use borrow.Author.Needs.{needs}
 use Rattle.line.specs.Line.{by-letter}
-use Rattle.programs.specs.Answers.{made}
+use Rattle.line.specs.Answers.{made}
 use Rattle.programs.proofs.Letters.{no-letter, at-letter}
 use Rattle.programs.proofs.outcome.Statement.{statement}
 use Rattle.programs.proofs.outcome.Tie as tie

@@ -3,7 +3,7 @@ use mathlib.Core.Path.{ap, _∙_}
 use borrow.Author.Needs.{needs}
 use Rattle.results.specs.Operation.{called}
 use Rattle.line.specs.Line.{room, line, printed}
-use Rattle.programs.specs.Answers.{text}
+use Rattle.line.specs.Answers.{text}
 use Rattle.programs.proofs.printed.Statement.{statement}
 use Rattle.programs.proofs.printed.Tie as tie
 

@@ -4,7 +4,7 @@ use native.Mathlib.Omega.{arith}
 use borrow.Author.Needs.{needs}
 use Rattle.line.specs.Line.{by-letter}
 use Rattle.line.proofs.Enough.{too-long}
-use Rattle.programs.specs.Answers.{made}
+use Rattle.line.specs.Answers.{made}
 use Rattle.programs.proofs.Letters.{unknown, known, not-long}
 use Rattle.programs.proofs.inputs.by_code.Statement.{statement}
 use Rattle.programs.proofs.inputs.by_code.Tie as tie

@@ -6,8 +6,8 @@ use lib.ListN.{length, drop, length-drop}
 use lib.Seq.{take-all}
 use borrow.Author.Needs.{needs}
 use Rattle.housefile.specs.Reader.{layout}
-use Rattle.files.specs.Walking.{Scanned}
-use Rattle.programs.specs.Answers.{made}
+use Rattle.housefile_reader.specs.Walking.{Scanned}
+use Rattle.line.specs.Answers.{made}
 use Rattle.programs.proofs.Fronts.{Laid, fault-scanned, laid-scanned, laid-within, first-fault, second-fault, trailing, both-laid, of-walks-found}
 use Rattle.programs.proofs.inputs.of_bytes.Statement.{statement}
 use Rattle.programs.proofs.inputs.of_bytes.Tie as tie

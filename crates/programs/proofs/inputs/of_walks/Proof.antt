@@ -5,8 +5,8 @@ use native.Mathlib.Omega.{arith}
 use lib.Seq.{length-take-le}
 use borrow.Author.Needs.{needs}
 use Rattle.solids.specs.declared.Verdict.the-variants.{Accepted}
-use Rattle.files.proofs.Outcomes.{few}
-use Rattle.programs.specs.Answers.{made}
+use Rattle.housefile_reader.proofs.Outcomes.{few}
+use Rattle.line.specs.Answers.{made}
 use Rattle.programs.specs.Words.{kept-admission}
 use Rattle.programs.proofs.Fronts.{accepted-few, then-A-kept, then-B-kept, then-operation}
 use Rattle.programs.proofs.inputs.of_walks.Statement.{statement}

@@ -2,7 +2,7 @@
 use mathlib.Core.Path.{ap}
 use lib.Ieee.{ofBits}
 use borrow.Author.Needs.{needs}
-use Rattle.programs.specs.Answers.{made}
+use Rattle.line.specs.Answers.{made}
 use Rattle.programs.proofs.inputs.operated.Statement.{statement}
 use Rattle.programs.proofs.inputs.operated.Tie as tie
 

@@ -1,0 +1,121 @@
+// The boxes of a solid's edges or facets, in a list of six numbers each, and those of them that are near a box.
+use near::Bounds;
+use near::Far;
+use near::Thing;
+use points::Point;
+ghost use mathlib.Core.Path.{_≡_};
+ghost use Prim.Native.Nat.{ℕ, _+_, _*_, _<_, _≤_};
+ghost use lib.ListN.{length, getD};
+ghost use lib.Seq.{sets};
+ghost use Rattle.sums.specs.Lists.{upTo};
+ghost use Rattle.points.specs.Points.{coordinates};
+ghost use Rattle.solids.specs.Solids as So;
+ghost use Rattle.edges.specs.Words as Sl;
+ghost use Rattle.near.specs.Boxes as Bo;
+ghost use Rattle.near.specs.Things as Th;
+
+// Is the box beside number j of the list? By x first.
+pub fn beside_at(b: Bounds, boxes: &[f64], j: usize) -> bool
+    requires { ⌜ 6 * j + 6 ≤ length (now boxes) ⌝ }
+    ensures { λ r. ⌜ r ≡ Bo.beside b (Th.box-at (now (boxes .entry)) j) ⌝ }
+{
+    if near::clear(b.low.x, b.high.x, boxes[6 * j], boxes[6 * j + 3]) {
+        true
+    } else {
+        near::clear(b.low.y, b.high.y, boxes[6 * j + 1], boxes[6 * j + 4])
+    }
+}
+
+// Is the box far from number j of the list?
+pub fn far_at(far: Far, b: Bounds, boxes: &[f64], j: usize) -> bool
+    requires { ⌜ 6 * j + 6 ≤ length (now boxes) ⌝ }
+    ensures { λ r. ⌜ r ≡ Bo.far «far» b (Th.box-at (now (boxes .entry)) j) ⌝ }
+{
+    if beside_at(b, boxes, j) {
+        return true;
+    }
+    match far {
+        Far::Apart => near::clear(b.low.z, b.high.z, boxes[6 * j + 2], boxes[6 * j + 5]),
+        Far::Below => boxes[6 * j + 5] < b.low.z,
+        Far::Above => b.high.z < boxes[6 * j + 2],
+    }
+}
+
+// The box round edge or facet number i.
+pub fn box_of(thing: Thing, points: &[f64], corners: &[u32], ends: &[u32], i: usize) -> Bounds
+    requires { ⌜ Sl.Ready (now points) (now corners) (now ends) × (i < Th.many thing (So.solid (now points) (now corners))) ⌝ }
+    ensures { λ r. ⌜ r ≡ Th.box-of thing (So.solid (now (points .entry)) (now (corners .entry))) i ⌝ }
+{
+    match thing {
+        Thing::Edges => near::round_edge(edges::edge_at(points, ends, corners, i)),
+        Thing::Facets => near::round_facet(containment::facet(points, corners, i)),
+    }
+}
+
+fn put_three(v: Point, list: &mut [f64], at: usize)
+    requires { ⌜ at + 3 ≤ length (now list) ⌝ }
+    ensures { λ r. ⌜ now (list .exit) ≡ sets (now (list .entry)) at (coordinates v) ⌝ }
+{
+    list[at] = v.x;
+    list[at + 1] = v.y;
+    list[at + 2] = v.z;
+}
+
+fn put(b: Bounds, boxes: &mut [f64], at: usize)
+    requires { ⌜ at + 6 ≤ length (now boxes) ⌝ }
+    ensures { λ r. ⌜ now (boxes .exit) ≡ sets (now (boxes .entry)) at (Th.six b) ⌝ }
+{
+    put_three(b.low, boxes, at);
+    put_three(b.high, boxes, at + 3);
+}
+
+// The boxes of all edges or facets into a list, each at its number; the numbers of those that are not far from `b` into another, and how many they are.
+pub fn gather(
+    far: Far,
+    b: Bounds,
+    thing: Thing,
+    points: &[f64],
+    corners: &[u32],
+    ends: &[u32],
+    many: usize,
+    columns: &mut [u32],
+    boxes: &mut [f64],
+) -> usize
+    requires { ⌜ Sl.Ready (now points) (now corners) (now ends) × (many ≡ Th.many thing (So.solid (now points) (now corners))) × (many ≤ 384) ⌝ }
+    requires { ⌜ (many ≤ length (now columns)) × (6 * many ≤ length (now boxes)) ⌝ }
+    ensures { λ r. ⌜ Th.Narrowed (now (columns .exit)) «far» b (Th.box-of thing (So.solid (now (points .entry)) (now (corners .entry)))) (upTo many) r ⌝ }
+    ensures boxed { λ r. ⌜ Th.Boxed (now (boxes .exit)) thing (So.solid (now (points .entry)) (now (corners .entry))) ⌝ }
+    ensures same { λ r. ⌜ (length (now (columns .exit)) ≡ length (now (columns .entry))) × (length (now (boxes .exit)) ≡ length (now (boxes .entry))) ⌝ }
+{
+    let mut k = 0;
+    let mut i = 0;
+    while i < many {
+        put(box_of(thing, points, corners, ends, i), boxes, 6 * i);
+        if !far_at(far, b, boxes, i) {
+            columns[k] = i as u32;
+            k += 1;
+        }
+        i += 1;
+    }
+    k
+}
+
+// Those of some columns that are not far from `b`, in order, into another list, and how many they are.
+pub fn narrow(far: Far, b: Bounds, boxes: &[f64], columns: &[u32], few: &mut [u32]) -> usize
+    requires { ⌜ (length (now columns) ≤ length (now few)) × (length (now columns) ≤ 384) ⌝ }
+    requires there { ⌜ ((i : ℕ) → i < length (now columns) → 6 * getD (now columns) i 0 + 6 ≤ length (now boxes)) ⌝ }
+    ensures { λ r. ⌜ Th.Narrowed (now (few .exit)) «far» b (Th.box-at (now (boxes .entry))) (now (columns .entry)) r ⌝ }
+    ensures same { λ r. ⌜ length (now (few .exit)) ≡ length (now (few .entry)) ⌝ }
+{
+    let mut k = 0;
+    let mut at = 0;
+    while at < columns.len() {
+        let c = columns[at];
+        if !far_at(far, b, boxes, c as usize) {
+            few[k] = c;
+            k += 1;
+        }
+        at += 1;
+    }
+    k
+}

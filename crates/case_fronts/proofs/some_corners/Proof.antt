@@ -1,0 +1,19 @@
+-- `some_corners` is safe.
+use mathlib.Core.Path.{sym}
+use lib.Seq.{length-take-le}
+use native.Mathlib.Omega.{arith}
+use borrow.Author.Needs.{needs}
+use Rattle.case_fronts.proofs.some_corners.Statement.{statement}
+use Rattle.case_fronts.proofs.some_corners.Tie as tie
+
+slice-aggregate-result : tie.Need-slice-aggregate-result
+slice-aggregate-result c = sym (length-take-le _ _ (omega arith))
+
+returns : tie.Need-returns
+returns c = search needs
+
+returns-2 : tie.Need-returns-2
+returns-2 c = search needs
+
+pub some-corners-spec : {M : Type 1} → statement M
+some-corners-spec = tie.close (tie.spec slice-aggregate-result returns returns-2)

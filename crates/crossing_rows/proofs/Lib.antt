@@ -1,0 +1,4 @@
+pub mod Listings
+pub mod Rowwise
+pub mod Room
+pub mod Along

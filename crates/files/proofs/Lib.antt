@@ -1,4 +1,0 @@
-pub mod Kept
-pub mod Walks
-pub mod Blanks
-pub mod Outcomes
