@@ -11,16 +11,16 @@
 # first of them that is not over. A part is over when a later one begins, or after so many calls, where a number is given. Parts of the same
 # name are one row of the table. A call must come back to its caller, and must not run the caller inside it.
 BEGIN {
-    part("admission", "checks::admission::")
-    part("making ready: edges and half-edges", "halves::sides::ready")
+    part("admission", "admission::")
+    part("making ready: edges and half-edges", "half_edges::sides::ready")
     part("clearing the lists of crossings", "")
-    part("crossings found, with boxes", "found::find_kind")
+    part("crossings found, with boxes", "crossings_found::find_kind")
     part("inclusions of vertices", "inclusions::include_side")
     part("numbers, marks by edge", "")
-    part("marks by facet", "marking::fill::mark_half")
+    part("marks by facet", "touched_pairs::fill::mark_half")
     part("triangles counted", "triangle_count::tell_line triangle_count::tell_pair")
     part("writing of the points", "")
-    part("pieces and triangles, written", "edge_pieces::half_pieces facet_pieces::pair_pieces triangles::boundary::row")
+    part("pieces and triangles, written", "edge_pieces::half_pieces facet_pieces::pair_pieces result_triangles::boundary::row")
     operation = "measured_" side
     FS = "/"
 }

@@ -1,41 +1,40 @@
 // The boxes of a solid's edges or facets, in a list of six numbers each, and those of them that are near a box.
-use near::Bounds;
-use near::Far;
-use near::Thing;
+use bounds::Bounds;
+use bounds::Far;
+use bounds::Thing;
 use points::Point;
 ghost use mathlib.Core.Path.{_≡_};
 ghost use Prim.Native.Nat.{ℕ, _+_, _*_, _<_, _≤_};
 ghost use lib.ListN.{length, getD};
 ghost use lib.Seq.{sets};
-ghost use Rattle.sums.specs.Lists.{upTo};
+ghost use Rattle.list_words.specs.Lists.{upTo};
 ghost use Rattle.points.specs.Points.{coordinates};
 ghost use Rattle.solids.specs.Solids as So;
-ghost use Rattle.edges.specs.Words as Sl;
-ghost use Rattle.near.specs.Boxes as Bo;
-ghost use Rattle.near.specs.Things as Th;
+ghost use Rattle.edges.specs.Words as Ed;
+ghost use Rattle.bounds.specs.Words as Bo;
 
 // Is the box beside number j of the list? By x first.
 pub fn beside_at(b: Bounds, boxes: &[f64], j: usize) -> bool
     requires { ⌜ 6 * j + 6 ≤ length (now boxes) ⌝ }
-    ensures { λ r. ⌜ r ≡ Bo.beside b (Th.box-at (now (boxes .entry)) j) ⌝ }
+    ensures { λ r. ⌜ r ≡ Bo.beside b (Bo.box-at (now (boxes .entry)) j) ⌝ }
 {
-    if near::clear(b.low.x, b.high.x, boxes[6 * j], boxes[6 * j + 3]) {
+    if bounds::clear(b.low.x, b.high.x, boxes[6 * j], boxes[6 * j + 3]) {
         true
     } else {
-        near::clear(b.low.y, b.high.y, boxes[6 * j + 1], boxes[6 * j + 4])
+        bounds::clear(b.low.y, b.high.y, boxes[6 * j + 1], boxes[6 * j + 4])
     }
 }
 
 // Is the box far from number j of the list?
 pub fn far_at(far: Far, b: Bounds, boxes: &[f64], j: usize) -> bool
     requires { ⌜ 6 * j + 6 ≤ length (now boxes) ⌝ }
-    ensures { λ r. ⌜ r ≡ Bo.far «far» b (Th.box-at (now (boxes .entry)) j) ⌝ }
+    ensures { λ r. ⌜ r ≡ Bo.far «far» b (Bo.box-at (now (boxes .entry)) j) ⌝ }
 {
     if beside_at(b, boxes, j) {
         return true;
     }
     match far {
-        Far::Apart => near::clear(b.low.z, b.high.z, boxes[6 * j + 2], boxes[6 * j + 5]),
+        Far::Apart => bounds::clear(b.low.z, b.high.z, boxes[6 * j + 2], boxes[6 * j + 5]),
         Far::Below => boxes[6 * j + 5] < b.low.z,
         Far::Above => b.high.z < boxes[6 * j + 2],
     }
@@ -43,12 +42,12 @@ pub fn far_at(far: Far, b: Bounds, boxes: &[f64], j: usize) -> bool
 
 // The box round edge or facet number i.
 pub fn box_of(thing: Thing, points: &[f64], corners: &[u32], ends: &[u32], i: usize) -> Bounds
-    requires { ⌜ Sl.Ready (now points) (now corners) (now ends) × (i < Th.many thing (So.solid (now points) (now corners))) ⌝ }
-    ensures { λ r. ⌜ r ≡ Th.box-of thing (So.solid (now (points .entry)) (now (corners .entry))) i ⌝ }
+    requires { ⌜ Ed.Ready (now points) (now corners) (now ends) × (i < Bo.many thing (So.lent points corners)) ⌝ }
+    ensures { λ r. ⌜ r ≡ Bo.box-of thing (So.lent (points .entry) (corners .entry)) i ⌝ }
 {
     match thing {
-        Thing::Edges => near::round_edge(edges::edge_at(points, ends, corners, i)),
-        Thing::Facets => near::round_facet(containment::facet(points, corners, i)),
+        Thing::Edges => bounds::round_edge(edges::edge_at(points, ends, corners, i)),
+        Thing::Facets => bounds::round_facet(containment::facet(points, corners, i)),
     }
 }
 
@@ -63,7 +62,7 @@ fn put_three(v: Point, list: &mut [f64], at: usize)
 
 fn put(b: Bounds, boxes: &mut [f64], at: usize)
     requires { ⌜ at + 6 ≤ length (now boxes) ⌝ }
-    ensures { λ r. ⌜ now (boxes .exit) ≡ sets (now (boxes .entry)) at (Th.six b) ⌝ }
+    ensures { λ r. ⌜ now (boxes .exit) ≡ sets (now (boxes .entry)) at (Bo.six b) ⌝ }
 {
     put_three(b.low, boxes, at);
     put_three(b.high, boxes, at + 3);
@@ -81,10 +80,10 @@ pub fn gather(
     columns: &mut [u32],
     boxes: &mut [f64],
 ) -> usize
-    requires { ⌜ Sl.Ready (now points) (now corners) (now ends) × (many ≡ Th.many thing (So.solid (now points) (now corners))) × (many ≤ 384) ⌝ }
+    requires { ⌜ Ed.Ready (now points) (now corners) (now ends) × (many ≡ Bo.many thing (So.lent points corners)) × (many ≤ 384) ⌝ }
     requires { ⌜ (many ≤ length (now columns)) × (6 * many ≤ length (now boxes)) ⌝ }
-    ensures { λ r. ⌜ Th.Narrowed (now (columns .exit)) «far» b (Th.box-of thing (So.solid (now (points .entry)) (now (corners .entry)))) (upTo many) r ⌝ }
-    ensures boxed { λ r. ⌜ Th.Boxed (now (boxes .exit)) thing (So.solid (now (points .entry)) (now (corners .entry))) ⌝ }
+    ensures { λ r. ⌜ Bo.Narrowed (now (columns .exit)) «far» b (Bo.box-of thing (So.lent (points .entry) (corners .entry))) (upTo many) r ⌝ }
+    ensures boxed { λ r. ⌜ Bo.Boxed (now (boxes .exit)) thing (So.lent (points .entry) (corners .entry)) ⌝ }
     ensures same { λ r. ⌜ (length (now (columns .exit)) ≡ length (now (columns .entry))) × (length (now (boxes .exit)) ≡ length (now (boxes .entry))) ⌝ }
 {
     let mut k = 0;
@@ -104,7 +103,7 @@ pub fn gather(
 pub fn narrow(far: Far, b: Bounds, boxes: &[f64], columns: &[u32], few: &mut [u32]) -> usize
     requires { ⌜ (length (now columns) ≤ length (now few)) × (length (now columns) ≤ 384) ⌝ }
     requires there { ⌜ ((i : ℕ) → i < length (now columns) → 6 * getD (now columns) i 0 + 6 ≤ length (now boxes)) ⌝ }
-    ensures { λ r. ⌜ Th.Narrowed (now (few .exit)) «far» b (Th.box-at (now (boxes .entry))) (now (columns .entry)) r ⌝ }
+    ensures { λ r. ⌜ Bo.Narrowed (now (few .exit)) «far» b (Bo.box-at (now (boxes .entry))) (now (columns .entry)) r ⌝ }
     ensures same { λ r. ⌜ length (now (few .exit)) ≡ length (now (few .entry)) ⌝ }
 {
     let mut k = 0;

@@ -11,7 +11,7 @@ ghost use Rattle.results.specs.Operation as Op;
 ghost use Rattle.results.specs.Origin as Or;
 ghost use Rattle.housefile.specs.Reader as Rd;
 ghost use Rattle.housefile.specs.Writer as Wr;
-ghost use Rattle.line.specs.Answers as An;
+ghost use Rattle.solid_line.specs.Answers as An;
 ghost use Rattle.origins.specs.Shown as Sh;
 
 // Union (0), intersection (1) or difference (2) of A and B.
@@ -26,7 +26,7 @@ pub extern "C" fn ozoravesh_operate(
     corners: &mut [u32],
     origins: &mut [u32],
 ) -> Made
-    ensures { λ r. ⌜ Op.Operate code (So.solid (now (ap .entry)) (now (ac .entry))) (So.solid (now (bp .entry)) (now (bc .entry))) (Op.lists (now (points .entry)) (now (corners .entry)) (now (origins .entry))) (r, Op.lists (now (points .exit)) (now (corners .exit)) (now (origins .exit))) ⌝ }
+    ensures { λ r. ⌜ Op.Operate code (So.lent (ap .entry) (ac .entry)) (So.lent (bp .entry) (bc .entry)) (Op.lists (now (points .entry)) (now (corners .entry)) (now (origins .entry))) (r, Op.lists (now (points .exit)) (now (corners .exit)) (now (origins .exit))) ⌝ }
 {
     operations::operate(code, ap, ac, bp, bc, points, corners, origins)
 }
@@ -34,9 +34,9 @@ pub extern "C" fn ozoravesh_operate(
 // The answer of a solid's admission.
 #[no_mangle]
 pub extern "C" fn ozoravesh_admit(points: &[f64], corners: &[u32]) -> u32
-    ensures { λ r. ⌜ Ad.Admit (So.solid (now (points .entry)) (now (corners .entry))) r ⌝ }
+    ensures { λ r. ⌜ Ad.Admit (So.lent (points .entry) (corners .entry)) r ⌝ }
 {
-    checks::admission::admit(points, corners).answer().number
+    admission::admit(points, corners).answer().number
 }
 
 // How often the solid, as A, contains the point x, y, z.
@@ -48,7 +48,7 @@ pub extern "C" fn ozoravesh_count_as_a(
     points: &[f64],
     corners: &[u32],
 ) -> Counted
-    ensures { λ r. ⌜ Co.CountAsA (record { x = x; y = y; z = z }) (So.solid (now (points .entry)) (now (corners .entry))) r ⌝ }
+    ensures { λ r. ⌜ Co.CountAsA (record { x = x; y = y; z = z }) (So.lent (points .entry) (corners .entry)) r ⌝ }
 {
     containment::count_as_a(Point { x, y, z }, points, corners)
 }
@@ -62,7 +62,7 @@ pub extern "C" fn ozoravesh_count_as_b(
     points: &[f64],
     corners: &[u32],
 ) -> Counted
-    ensures { λ r. ⌜ Co.CountAsB (record { x = x; y = y; z = z }) (So.solid (now (points .entry)) (now (corners .entry))) r ⌝ }
+    ensures { λ r. ⌜ Co.CountAsB (record { x = x; y = y; z = z }) (So.lent (points .entry) (corners .entry)) r ⌝ }
 {
     containment::count_as_b(Point { x, y, z }, points, corners)
 }
@@ -91,7 +91,7 @@ pub extern "C" fn ozoravesh_read(bytes: &[u8], points: &mut [f64], corners: &mut
 // A solid's house file, in the front of lent bytes.
 #[no_mangle]
 pub extern "C" fn ozoravesh_write(points: &[f64], corners: &[u32], bytes: &mut [u8]) -> Written
-    ensures { λ r. ⌜ Wr.WriteFile (So.solid (now (points .entry)) (now (corners .entry))) (now (bytes .entry)) (r, now (bytes .exit)) ⌝ }
+    ensures { λ r. ⌜ Wr.WriteFile (So.lent (points .entry) (corners .entry)) (now (bytes .entry)) (r, now (bytes .exit)) ⌝ }
 {
     housefile_writer::write(points, corners, bytes)
 }
@@ -101,5 +101,5 @@ pub extern "C" fn ozoravesh_write(points: &[f64], corners: &[u32], bytes: &mut [
 pub extern "C" fn ozoravesh_program(input: &[u8]) -> Made
     ensures { λ r. ⌜ An.Program (now (input .entry)) r ⌝ }
 {
-    programs::outcome(input)
+    solid_outcome::outcome(input)
 }

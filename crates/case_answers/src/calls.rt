@@ -27,7 +27,7 @@ pub fn count(out: &mut Lines, as_b: bool, v: Point, points: &[f64], corners: &[u
 }
 
 pub fn admit(out: &mut Lines, points: &[f64], corners: &[u32]) {
-    let answer = checks::admission::admit(points, corners).answer().number;
+    let answer = admission::admit(points, corners).answer().number;
     let at = case_lines::number(out, 0, answer as u64);
     let line = case_lines::text(out, at, b"\n");
     case_lines::stop(out, line);

@@ -9,7 +9,7 @@ use case_parts::requests;
 use case_words::input::Buffer;
 use case_words::input::Letters;
 use case_words::input::Reader;
-ghost use Rattle.case_words.specs.Reading.{Sound};
+ghost use Rattle.case_words.specs.Words.{Sound};
 
 pub fn count(buffer: &mut Buffer, letters: &mut Letters, out: &mut Lines, r: Reader) -> Reader
     requires { ⌜ Sound r ⌝ }

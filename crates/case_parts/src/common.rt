@@ -8,7 +8,7 @@ use case_words::input::Letters;
 use case_words::input::Reader;
 use numbers::patterns;
 use points::Point;
-ghost use Rattle.case_words.specs.Reading.{Sound};
+ghost use Rattle.case_words.specs.Words.{Sound};
 
 // The reader behind a solid, and how many numbers of its lists are held.
 pub struct Held {

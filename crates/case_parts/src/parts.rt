@@ -10,7 +10,7 @@ use numbers::patterns;
 ghost use mathlib.Core.Path.{_≡_};
 ghost use Prim.Native.Nat.{_≤_};
 ghost use lib.ListN.{length};
-ghost use Rattle.case_words.specs.Reading.{Same, Sound};
+ghost use Rattle.case_words.specs.Words.{Same, Sound};
 
 fn failed(mut r: Reader) -> Reader
     ensures { λ q. ⌜ Same r q × (q .number ≡ 0) ⌝ }

@@ -3,7 +3,7 @@ use case_words::input;
 use case_words::input::Buffer;
 use case_words::input::Letters;
 use case_words::input::Reader;
-ghost use Rattle.case_words.specs.Reading.{Sound};
+ghost use Rattle.case_words.specs.Words.{Sound};
 
 pub enum Kind {
     Op,

@@ -1,2 +1,2 @@
 -- What the contracts of the case language cite.
-pub mod Reading
+pub mod Words

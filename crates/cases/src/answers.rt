@@ -7,7 +7,7 @@ use case_parts::requests;
 use case_words::input::Buffer;
 use case_words::input::Letters;
 use case_words::input::Reader;
-ghost use Rattle.case_words.specs.Reading.{Sound};
+ghost use Rattle.case_words.specs.Words.{Sound};
 
 // Lends the lists of the result, of at most 16,384 vertices and 65,536 triangles.
 fn operated(

@@ -32,7 +32,7 @@ pub fn op(
 }
 
 pub fn solid(out: &mut Lines, bytes: &[u8]) {
-    let line = programs::printed(bytes);
+    let line = solid_outcome::printed(bytes);
     let text = line.bytes;
     let used = line.used;
     let at = case_lines::text(out, 0, &text[..used]);

@@ -9,7 +9,7 @@ use case_words::input;
 use case_words::input::Buffer;
 use case_words::input::Letters;
 use case_words::input::Reader;
-ghost use Rattle.case_words.specs.Reading.{Sound};
+ghost use Rattle.case_words.specs.Words.{Sound};
 
 // Reads and answers the request that the word at hand begins. One that cannot be read has no answer, and leaves the reader not good.
 fn request(buffer: &mut Buffer, letters: &mut Letters, out: &mut Lines, mut r: Reader) -> Reader

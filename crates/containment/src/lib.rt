@@ -1,5 +1,4 @@
 // How often a solid contains a point, with the solid as A and as B, in code; and a facet's corners, from the two lists of a solid.
-use checks::admission;
 use crossings::Facet;
 use points::Axis;
 use points::Point;
@@ -11,15 +10,15 @@ ghost use mathlib.Core.List.{[], _∷_};
 ghost use Prim.Native.Nat.{_+_, _*_, _/_, _<_, _≤_};
 ghost use lib.ListN.{length, getD};
 ghost use lib.IntN.{natAbs};
-ghost use Rattle.sums.specs.Lists.{sumOf, upTo};
+ghost use Rattle.list_words.specs.Lists.{sumOf, upTo};
 ghost use Rattle.solids.specs.Solids as So;
 ghost use Rattle.solids.specs.Admission as Ad;
 ghost use Rattle.solids.specs.Refusals as Re;
 ghost use Rattle.solids.specs.Containment as Co;
-ghost use Rattle.solids.specs.Table as Ta;
+ghost use Rattle.solids.specs.Words as Sw;
 
 fn corner(points: &[f64], corners: &[u32], i: usize) -> Point
-    requires { ⌜ (i < length (now corners)) × Ta.Named (now points) (now corners) ⌝ }
+    requires { ⌜ (i < length (now corners)) × Sw.Named (now points) (now corners) ⌝ }
     ensures { λ r. ⌜ r ≡ So.vertex (So.solid (now (points .entry)) []) (getD (now (corners .entry)) i 0) ⌝ }
 {
     let number = corners[i] as usize;
@@ -27,8 +26,8 @@ fn corner(points: &[f64], corners: &[u32], i: usize) -> Point
 }
 
 pub fn facet(points: &[f64], corners: &[u32], f: usize) -> Facet
-    requires { ⌜ (f < length (now corners) / 3) × Ta.Named (now points) (now corners) ⌝ }
-    ensures { λ r. ⌜ r ≡ So.facet (So.solid (now (points .entry)) (now (corners .entry))) f ⌝ }
+    requires { ⌜ (f < length (now corners) / 3) × Sw.Named (now points) (now corners) ⌝ }
+    ensures { λ r. ⌜ r ≡ So.facet (So.lent (points .entry) (corners .entry)) f ⌝ }
 {
     let p = corners[3 * f];
     let q = corners[3 * f + 1];
@@ -44,7 +43,7 @@ pub fn facet(points: &[f64], corners: &[u32], f: usize) -> Facet
 }
 
 pub fn facet_s(as_b: bool, v: Point, f: Facet) -> i32
-    ensures { λ r. ⌜ r ≡ Ta.facet-S «as_b» v f ⌝ }
+    ensures { λ r. ⌜ r ≡ Sw.facet-S «as_b» v f ⌝ }
     ensures small { λ r. ⌜ natAbs r ≤ 1 ⌝ }
 {
     if as_b {
@@ -56,8 +55,8 @@ pub fn facet_s(as_b: bool, v: Point, f: Facet) -> i32
 
 // "sum S(vA,f)" over B's facets, or "sum S(f,vB)" over A's.
 fn sum_s(as_b: bool, v: Point, points: &[f64], corners: &[u32]) -> i32
-    requires { ⌜ Ta.Named (now points) (now corners) × (length (now corners) ≤ 768) ⌝ }
-    ensures { λ r. ⌜ r ≡ sumOf (λ f. Ta.facet-S «as_b» v (So.facet (So.solid (now (points .entry)) (now (corners .entry))) f)) (upTo (length (now (corners .entry)) / 3)) ⌝ }
+    requires { ⌜ Sw.Named (now points) (now corners) × (length (now corners) ≤ 768) ⌝ }
+    ensures { λ r. ⌜ r ≡ sumOf (λ f. Sw.facet-S «as_b» v (So.facet (So.lent (points .entry) (corners .entry)) f)) (upTo (length (now (corners .entry)) / 3)) ⌝ }
     ensures small { λ r. ⌜ natAbs r ≤ 256 ⌝ }
 {
     let mut sum: i32 = 0;
@@ -72,7 +71,7 @@ fn sum_s(as_b: bool, v: Point, points: &[f64], corners: &[u32]) -> i32
 
 // The point's verdict, then the solid's.
 fn both(v: Point, points: &[f64], corners: &[u32]) -> Verdict
-    ensures { λ r. ⌜ r ≡ Re.in-order (Ad.point-admission v ∷ Ad.admission (So.solid (now (points .entry)) (now (corners .entry))) ∷ []) ⌝ }
+    ensures { λ r. ⌜ r ≡ Re.in-order (Ad.point-admission v ∷ Ad.admission (So.lent (points .entry) (corners .entry)) ∷ []) ⌝ }
 {
     match admission::admit_point(v) {
         Verdict::Refused(n) => Verdict::Refused(n),
@@ -82,8 +81,8 @@ fn both(v: Point, points: &[f64], corners: &[u32]) -> Verdict
 
 // "X(vA,B)" or "X(A,vB)".
 pub fn contained(as_b: bool, v: Point, points: &[f64], corners: &[u32]) -> i32
-    requires { ⌜ Ta.Named (now points) (now corners) × (length (now corners) ≤ 768) ⌝ }
-    ensures { λ r. ⌜ r ≡ Ta.contained «as_b» v (So.solid (now (points .entry)) (now (corners .entry))) ⌝ }
+    requires { ⌜ Sw.Named (now points) (now corners) × (length (now corners) ≤ 768) ⌝ }
+    ensures { λ r. ⌜ r ≡ Sw.contained «as_b» v (So.lent (points .entry) (corners .entry)) ⌝ }
     ensures small { λ r. ⌜ natAbs r ≤ 256 ⌝ }
 {
     let sum = sum_s(as_b, v, points, corners);
@@ -91,7 +90,7 @@ pub fn contained(as_b: bool, v: Point, points: &[f64], corners: &[u32]) -> i32
 }
 
 fn count_as(as_b: bool, v: Point, points: &[f64], corners: &[u32]) -> Counted
-    ensures { λ r. ⌜ r ≡ Ta.count-as «as_b» v (So.solid (now (points .entry)) (now (corners .entry))) ⌝ }
+    ensures { λ r. ⌜ r ≡ Sw.count-as «as_b» v (So.lent (points .entry) (corners .entry)) ⌝ }
 {
     match both(v, points, corners) {
         Verdict::Refused(answer) => Counted { answer, count: 0 },
@@ -103,13 +102,13 @@ fn count_as(as_b: bool, v: Point, points: &[f64], corners: &[u32]) -> Counted
 }
 
 pub fn count_as_a(v: Point, points: &[f64], corners: &[u32]) -> Counted
-    ensures { λ r. ⌜ Co.CountAsA v (So.solid (now (points .entry)) (now (corners .entry))) r ⌝ }
+    ensures { λ r. ⌜ Co.CountAsA v (So.lent (points .entry) (corners .entry)) r ⌝ }
 {
     count_as(false, v, points, corners)
 }
 
 pub fn count_as_b(v: Point, points: &[f64], corners: &[u32]) -> Counted
-    ensures { λ r. ⌜ Co.CountAsB v (So.solid (now (points .entry)) (now (corners .entry))) r ⌝ }
+    ensures { λ r. ⌜ Co.CountAsB v (So.lent (points .entry) (corners .entry)) r ⌝ }
 {
     count_as(true, v, points, corners)
 }

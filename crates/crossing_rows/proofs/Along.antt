@@ -7,11 +7,11 @@ use Prim.Native.Nat.{ℕ, zero, suc, _<_}
 use borrow.Author.Tests.{lt-ltb}
 use lib.IntN.{ℤ, pos, negsuc, _-ℤ_, _*ℤ_, +ℤ-idr}
 use lib.ListN.{length}
-use Rattle.sums.specs.Lists.{sumOf, upTo, nonzero}
-use Rattle.sums.proofs.Sums.{sum-ext, sum-sub, sum-mul, sum-map, sum-keep}
+use Rattle.list_words.specs.Lists.{sumOf, upTo, nonzero}
+use Rattle.list_words.proofs.Sums.{sum-ext, sum-sub, sum-mul, sum-map, sum-keep}
 use Rattle.points.specs.declared.Axis.the-variants.{Z}
 use Rattle.crossings.specs.Crossings.{S, vf, ee}
-use Rattle.crossings.proofs.Table.{count-ef}
+use Rattle.crossings.proofs.Formulas.{count-ef}
 use Rattle.solids.specs.Solids.{Solid, Half, facets, edges, vertex, corner, along, edge, facet}
 use Rattle.solids.specs.Containment.{in-B}
 use Rattle.solids.proofs.Admitted.{Passed}
@@ -19,8 +19,7 @@ use Rattle.solids.proofs.Around.{around, around-closed}
 use Rattle.solids.proofs.Shut.{simple, closed}
 use Rattle.results.specs.Inclusion.{edge-facet}
 use Rattle.edges.specs.Words.{edge-numbered}
-use Rattle.crossing_rows.specs.Found.{count-at, row}
-use Rattle.crossing_rows.specs.Words.{crossing}
+use Rattle.crossing_rows.specs.Words.{count-at, row, crossing}
 
 is-zero : (n : ℤ) → nonzero n ≡ false → n ≡ pos 0
 is-zero (pos zero) h = refl

@@ -9,13 +9,12 @@ use native.Mathlib.Omega.{arith}
 use lib.IntN.{ℤ, pos, natAbs, _*ℤ_, *ℤ-zero}
 use lib.ListN.{length, getD, take, drop, set, length-append, length-set, length-drop, take-append-drop}
 use lib.Seq.{take-all, take-suc, take-suc-set, getD-set-same, getD-set-other}
-use Rattle.sums.specs.Lists.{upTo, keep, nonzero}
-use Rattle.sums.proofs.Sums.{All}
-use Rattle.sums.proofs.UpTo.{flat-upTo-suc}
-use Rattle.sums.proofs.Places.{flat-upTo-add}
-use Rattle.lists.proofs.Kept.{keep-append}
-use Rattle.layouts.specs.Packed.{packed}
-use Rattle.layouts.specs.Rows.{unpacked, Listing}
+use Rattle.list_words.specs.Lists.{upTo, keep, nonzero}
+use Rattle.list_words.proofs.Sums.{All}
+use Rattle.list_words.proofs.UpTo.{flat-upTo-suc}
+use Rattle.list_words.proofs.Places.{flat-upTo-add}
+use Rattle.list_stores.proofs.Kept.{keep-append}
+use Rattle.layouts.specs.Words.{packed, unpacked, Listing}
 use Rattle.layouts.proofs.Packing.{column-packed, inclusion-packed}
 use Rattle.crossing_rows.specs.Words.{crossing, Behind}
 

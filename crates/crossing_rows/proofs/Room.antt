@@ -7,18 +7,17 @@ use native.Mathlib.Omega.{arith}
 use borrow.Author.Tests.{lt-ltb, le-ltb}
 use lib.IntN.{ℤ, _*ℤ_}
 use lib.ListN.{length, length-append, length-map}
-use Rattle.sums.specs.Lists.{upTo, keep, nonzero}
-use Rattle.sums.proofs.UpTo.{length-upTo, flat-upTo-suc}
-use Rattle.sums.proofs.Places.{flat-upTo-add}
+use Rattle.list_words.specs.Lists.{upTo, keep, nonzero}
+use Rattle.list_words.proofs.UpTo.{length-upTo, flat-upTo-suc}
+use Rattle.list_words.proofs.Places.{flat-upTo-add}
 use Rattle.solids.specs.Solids.{Solid, facets, edges}
 use Rattle.solids.specs.declared.Verdict.the-variants.{Accepted}
 use Rattle.solids.specs.Admission.{admission}
 use Rattle.solids.proofs.Admitted.{passed}
 use Rattle.edges.proofs.Edges.{keep-le}
-use Rattle.layouts.specs.Many.{sizes}
-use Rattle.layouts.specs.Rows.{columns}
+use Rattle.layouts.specs.Words.{sizes, columns}
 use Rattle.layouts.proofs.Lengths.{sized}
-use Rattle.crossing_rows.specs.Found.{row, rows, count-at}
+use Rattle.crossing_rows.specs.Words.{row, rows, count-at}
 
 -- rows of at most m each
 few-in : {A : Type 0} (F : ℕ → List A) (m n : ℕ) → ((r : ℕ) → r < n → length (F r) ≤ m) → length (flatMap F (upTo n)) ≤ n * m

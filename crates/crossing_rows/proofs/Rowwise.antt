@@ -9,30 +9,27 @@ use lib.Dec.{ltb}
 use lib.Ieee.{Float}
 use lib.IntN.{ℤ, pos}
 use lib.ListN.{length}
-use Rattle.sums.specs.Lists.{upTo}
-use Rattle.sums.proofs.Tests.{not-false}
+use Rattle.list_words.specs.Lists.{upTo}
+use Rattle.list_words.proofs.Tests.{not-false}
 use Rattle.points.specs.declared.Point.{Point}
 use Rattle.crossings.specs.Crossings.{count}
 use Rattle.solids.specs.Solids.{Solid, solid, facets, edges, edge, facet}
 use Rattle.solids.proofs.Admitted.{Passed}
 use Rattle.results.specs.Inclusion.{edge-facet, facet-edge}
 use Rattle.edges.specs.Words.{edge-numbered, Ready}
-use Rattle.layouts.specs.Many.{sizes}
-use Rattle.layouts.specs.Rows.{columns}
-use Rattle.near.specs.declared.Bounds.{Bounds}
-use Rattle.near.specs.declared.Far.the-variants.{Apart}
-use Rattle.near.specs.declared.Thing.{Thing}
-use Rattle.near.specs.declared.Thing.the-variants.{Edges, Facets}
-use Rattle.near.specs.Boxes.{Present, apart, far}
-use Rattle.near.specs.Things.{many, box-of, whole, Among, near-to}
-use Rattle.near.proofs.Inside.{In, Sound, sound-round-edge, sound-round-facet, in-round-edge, in-round-facet}
-use Rattle.near.proofs.Listing.{all-places}
-use Rattle.near.proofs.Misses.{apart-ef, apart-fe}
-use Rattle.near.proofs.Things.{Lies, number-vertex, lies-box, lies-whole}
+use Rattle.layouts.specs.Words.{sizes, columns}
+use Rattle.bounds.specs.declared.Bounds.{Bounds}
+use Rattle.bounds.specs.declared.Far.the-variants.{Apart}
+use Rattle.bounds.specs.declared.Thing.{Thing}
+use Rattle.bounds.specs.declared.Thing.the-variants.{Edges, Facets}
+use Rattle.bounds.specs.Words.{Present, apart, far, many, box-of, whole, Among, near-to}
+use Rattle.bounds.proofs.Inside.{In, Sound, sound-round-edge, sound-round-facet, in-round-edge, in-round-facet}
+use Rattle.bounds.proofs.Listing.{all-places}
+use Rattle.bounds.proofs.Misses.{apart-ef, apart-fe}
+use Rattle.bounds.proofs.Things.{Lies, number-vertex, lies-box, lies-whole}
 use Rattle.crossing_rows.specs.declared.Row.{Row}
 use Rattle.crossing_rows.specs.declared.Row.the-variants.{OfEdge, OfFacet}
-use Rattle.crossing_rows.specs.Found.{count-at, row, rows}
-use Rattle.crossing_rows.specs.Words.{round, across, Lying, count-of, row-of, crossing}
+use Rattle.crossing_rows.specs.Words.{count-at, row, rows, round, across, Lying, count-of, row-of, crossing}
 use Rattle.crossing_rows.proofs.Listings.{crossing-none, crossing-keep}
 
 pub many-few : {points : List Float} {corners ends : List ℕ} → Ready points corners ends → (t : Thing) → many t (solid points corners) ≤ 384

@@ -1,8 +1,8 @@
 // Rows of crossings: an edge of A with facets of B, or a facet of A with edges of B. A crossing that counts is listed as one number with its column and
 // its count.
+use bounds::Bounds;
 use crossings::Edge;
 use crossings::Facet;
-use near::Bounds;
 ghost use mathlib.Core.Path.{_≡_};
 ghost use mathlib.Core.List.{[], _∷_};
 ghost use Prim.Native.Nat.{_<_, _≤_};
@@ -10,9 +10,8 @@ ghost use lib.IntN.{natAbs};
 ghost use lib.ListN.{length};
 ghost use Rattle.solids.specs.Solids as So;
 ghost use Rattle.edges.specs.Words as Ed;
-ghost use Rattle.near.specs.Things as Th;
-ghost use Rattle.crossing_rows.specs.Found as Fo;
-ghost use Rattle.crossing_rows.specs.Words as Wo;
+ghost use Rattle.bounds.specs.Words as Bo;
+ghost use Rattle.crossing_rows.specs.Words as Cr;
 
 // How many were listed, or that there is no room for all.
 pub enum Listed {
@@ -27,17 +26,17 @@ pub enum Row {
 }
 
 pub fn round(row: Row) -> Bounds
-    ensures { λ r. ⌜ r ≡ Wo.round row ⌝ }
+    ensures { λ r. ⌜ r ≡ Cr.round row ⌝ }
 {
     match row {
-        Row::OfEdge(e) => near::round_edge(e),
-        Row::OfFacet(f) => near::round_facet(f),
+        Row::OfEdge(e) => bounds::round_edge(e),
+        Row::OfFacet(f) => bounds::round_facet(f),
     }
 }
 
 pub fn row_at(ap: &[f64], ac: &[u32], ae: &[u32], edges: usize, r: usize) -> Row
-    requires { ⌜ Ed.Ready (now ap) (now ac) (now ae) × («edges» ≡ length (So.edges (So.solid (now ap) (now ac)))) × (r < Fo.rows (So.solid (now ap) (now ac)) (So.solid (now ap) (now ac))) ⌝ }
-    ensures { λ x. ⌜ x ≡ Wo.row-of (So.solid (now (ap .entry)) (now (ac .entry))) r ⌝ }
+    requires { ⌜ Ed.Ready (now ap) (now ac) (now ae) × («edges» ≡ length (So.edges (So.lent ap ac))) × (r < Cr.rows (So.lent ap ac) (So.lent ap ac)) ⌝ }
+    ensures { λ x. ⌜ x ≡ Cr.row-of (So.lent (ap .entry) (ac .entry)) r ⌝ }
 {
     if r < edges {
         Row::OfEdge(edges::edge_at(ap, ae, ac, r))
@@ -47,13 +46,13 @@ pub fn row_at(ap: &[f64], ac: &[u32], ae: &[u32], edges: usize, r: usize) -> Row
 }
 
 fn count_of(row: Row, bp: &[f64], bc: &[u32], be: &[u32], column: usize) -> i32
-    requires { ⌜ Ed.Ready (now bp) (now bc) (now be) × (column < Th.many (Wo.across row) (So.solid (now bp) (now bc))) ⌝ }
-    ensures { λ r. ⌜ r ≡ Wo.count-of row (So.solid (now (bp .entry)) (now (bc .entry))) column ⌝ }
+    requires { ⌜ Ed.Ready (now bp) (now bc) (now be) × (column < Bo.many (Cr.across row) (So.lent bp bc)) ⌝ }
+    ensures { λ r. ⌜ r ≡ Cr.count-of row (So.lent (bp .entry) (bc .entry)) column ⌝ }
     ensures small { λ r. ⌜ natAbs r ≤ 2 ⌝ }
 {
     match row {
-        Row::OfEdge(e) => counts::ef(e, containment::facet(bp, bc, column)),
-        Row::OfFacet(f) => counts::fe(f, edges::edge_at(bp, be, bc, column)),
+        Row::OfEdge(e) => crossing_counts::ef(e, containment::facet(bp, bc, column)),
+        Row::OfFacet(f) => crossing_counts::fe(f, edges::edge_at(bp, be, bc, column)),
     }
 }
 
@@ -68,9 +67,9 @@ pub fn add(
     k: usize,
     crossed: &mut [u32],
 ) -> Listed
-    requires { ⌜ Ed.Ready (now bp) (now bc) (now be) × (column < Th.many (Wo.across row) (So.solid (now bp) (now bc))) ⌝ }
+    requires { ⌜ Ed.Ready (now bp) (now bc) (now be) × (column < Bo.many (Cr.across row) (So.lent bp bc)) ⌝ }
     requires { ⌜ (natAbs sign ≤ 1) × (k ≤ length (now crossed)) × (length (now crossed) ≤ 262144) ⌝ }
-    ensures { λ r. ⌜ Wo.Added (now (crossed .entry)) k (Wo.crossing sign (Wo.count-of row (So.solid (now (bp .entry)) (now (bc .entry)))) (column ∷ [])) (now (crossed .exit)) r ⌝ }
+    ensures { λ r. ⌜ Cr.Added (now (crossed .entry)) k (Cr.crossing sign (Cr.count-of row (So.lent (bp .entry) (bc .entry))) (column ∷ [])) (now (crossed .exit)) r ⌝ }
     ensures same { λ r. ⌜ length (now (crossed .exit)) ≡ length (now (crossed .entry)) ⌝ }
 {
     let n = sign * count_of(row, bp, bc, be, column);

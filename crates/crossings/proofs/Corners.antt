@@ -4,9 +4,9 @@ use mathlib.Core.Path.{_≡_, refl, ap₂, _∙_}
 use mathlib.Core.Bool.{Bool, true, false, cond}
 use mathlib.Core.List.{List, [], _∷_}
 use lib.IntN.{ℤ, pos, negℤ, _+ℤ_, _-ℤ_, +ℤ-assoc, +ℤ-idr}
-use Rattle.sums.specs.Lists.{sumOf, turned}
-use Rattle.sums.proofs.Sums.{sum-ext, sum-map}
-use Rattle.sums.proofs.Signed.{around, loop, around-ext, around-add, around-neg, around-sub, around-diff, around-diff′}
+use Rattle.list_words.specs.Lists.{sumOf, turned}
+use Rattle.list_words.proofs.Sums.{sum-ext, sum-map}
+use Rattle.list_words.proofs.Signed.{around, loop, around-ext, around-add, around-neg, around-sub, around-diff, around-diff′}
 use Rattle.points.specs.declared.Point.{Point}
 use Rattle.crossings.specs.declared.Edge.{Edge}
 use Rattle.crossings.specs.declared.Facet.{Facet}

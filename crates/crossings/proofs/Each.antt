@@ -2,7 +2,7 @@
 -- directions of half-edges play no part; R is a predicate on points, by which a facet's half-edges are told from other edges.
 use mathlib.Core.Bool.{Bool, true, false, cond}
 use mathlib.Core.List.{List, [], _∷_}
-use Rattle.sums.proofs.Sums.{All, all-++}
+use Rattle.list_words.proofs.Sums.{All, all-++}
 use Rattle.points.specs.declared.Point.{Point}
 use Rattle.points.specs.declared.Axis.{Axis}
 use Rattle.crossings.specs.declared.Edge.{Edge}

@@ -3,13 +3,13 @@
 use mathlib.Core.Path.{_≡_, sym, ap, _∙_}
 use mathlib.Core.Bool.{Bool}
 use lib.IntN.{ℤ, pos, _-ℤ_}
-use Rattle.sums.proofs.Signed.{around-sub, around-swap}
+use Rattle.list_words.proofs.Signed.{around-sub, around-swap}
 use Rattle.points.specs.declared.Point.{Point}
 use Rattle.points.specs.declared.Axis.the-variants.{Z}
 use Rattle.crossings.specs.declared.Edge.{Edge}
 use Rattle.crossings.specs.Crossings.{count, S, vf, fv, ee, ef, fe}
 use Rattle.crossings.proofs.Corners.{edge-at, half-edges-of, facet-at, round, round-ext, round-ends, round-ends-turned}
-use Rattle.crossings.proofs.Table.{count-ef, count-fe}
+use Rattle.crossings.proofs.Formulas.{count-ef, count-fe}
 
 -- A's facet has the corners p, q, r and B's the corners k, l, m.
 module _ {M N : Type 0} (point-A : M → Point) (up-A : M × M → Bool) (p q r : M) (point-B : N → Point) (up-B : N × N → Bool) (k l m : N) where

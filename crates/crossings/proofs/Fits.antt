@@ -9,8 +9,8 @@ use lib.Signed.{mag}
 use mir.Syntax.{w32}
 use mir.Val.{toZ, ofZ, SFits}
 use mir.Facts.{toZ-ofZ}
-use Rattle.sums.specs.Lists.{nonzero}
-use Rattle.sums.proofs.Integers.{bnd-add, bnd-neg}
+use Rattle.list_words.specs.Lists.{nonzero}
+use Rattle.list_words.proofs.Integers.{bnd-add, bnd-neg}
 
 mag-le : (z : ℤ) → mag z ≤ natAbs z
 mag-le (pos n) = le-refl n

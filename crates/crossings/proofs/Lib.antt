@@ -1,5 +1,5 @@
 pub mod Corners
-pub mod Table
+pub mod Formulas
 pub mod Lower
 pub mod Facets
 pub mod Each

@@ -6,10 +6,10 @@ use native.Mathlib.Omega.{arith}
 use mathlib.Core.Bool.{Bool, true, false, cond}
 use mathlib.Core.List.{List, [], _∷_}
 use lib.IntN.{ℤ, pos, negℤ, _+ℤ_, _-ℤ_, +ℤ-invr}
-use Rattle.sums.specs.Lists.{sumOf}
-use Rattle.sums.proofs.Integers.{split, mk-eq, lin, eq-of-sub}
-use Rattle.sums.proofs.Sums.{sum-sub}
-use Rattle.sums.proofs.Tests.{not-false}
+use Rattle.list_words.specs.Lists.{sumOf}
+use Rattle.list_words.proofs.Integers.{split, mk-eq, lin, eq-of-sub}
+use Rattle.list_words.proofs.Sums.{sum-sub}
+use Rattle.list_words.proofs.Tests.{not-false}
 use Rattle.points.specs.declared.Point.{Point}
 use Rattle.points.specs.declared.Axis.{Axis}
 use Rattle.points.specs.declared.Axis.the-variants.{X, Y}
@@ -20,7 +20,7 @@ use Rattle.crossings.specs.declared.Crossing.{Crossing}
 use Rattle.crossings.specs.declared.Crossing.the-variants.{Miss, Cross}
 use Rattle.crossings.specs.Crossings.{count, S, lies, first, paired, vv, ve, ev, ee, lower-ve, lower-ev, lower-vf, lower-fv, lower-ee, lower-ef, lower-fe}
 use Rattle.crossings.proofs.Corners.{facet-at, round, round-ext, round-ends, round-ends-turned, round-but-ends, corner, along, one, two, three}
-use Rattle.crossings.proofs.Table.{count-paired, count-against, table-vf, table-fv, table-ee, table-ef, table-fe, count-ve, count-ev, count-vf, count-fv, count-ee}
+use Rattle.crossings.proofs.Formulas.{count-paired, count-against, table-vf, table-fv, table-ee, table-ef, table-fe, count-ve, count-ev, count-vf, count-fv, count-ee}
 
 -- ---- what is not 0 has a crossing that gives it
 there : (k : Axis) (side : Bool) (φ : Crossing → ℤ) → ((c : Crossing) → lies k side c ≡ false → φ c ≡ pos 0) → (cs : List Crossing) → sumOf φ cs ≢ pos 0

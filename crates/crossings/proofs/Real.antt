@@ -5,8 +5,8 @@ use mathlib.Core.Bool.{Bool, true, false, cond, false≢true}
 use mathlib.Core.List.{List}
 use lib.IntN.{ℤ, pos, negsuc, negℤ}
 use Prim.Native.Nat.{zero, suc}
-use Rattle.sums.specs.Lists.{sumOf, nonzero}
-use Rattle.sums.proofs.Sums.{All}
+use Rattle.list_words.specs.Lists.{sumOf, nonzero}
+use Rattle.list_words.proofs.Sums.{All}
 use Rattle.points.specs.declared.Point.{Point}
 use Rattle.points.specs.declared.Axis.{Axis}
 use Rattle.points.specs.declared.Axis.the-variants.{X, Y}

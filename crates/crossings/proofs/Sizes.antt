@@ -11,10 +11,10 @@ use mathlib.Core.List.{List, [], _∷_}
 use lib.ListN.{length}
 use lib.Ieee.{Float, le}
 use lib.IntN.{ℤ, pos, negℤ, _-ℤ_, natAbs, +ℤ-idl, +ℤ-idr, +ℤ-invr, negℤ-negℤ}
-use Rattle.sums.specs.Lists.{sumOf}
-use Rattle.sums.proofs.Integers.{Bnd, bnd-add, bnd-neg, bnd-zero}
-use Rattle.sums.proofs.Sums.{All, sum-sub}
-use Rattle.sums.proofs.Tests.{never}
+use Rattle.list_words.specs.Lists.{sumOf}
+use Rattle.list_words.proofs.Integers.{Bnd, bnd-add, bnd-neg, bnd-zero}
+use Rattle.list_words.proofs.Sums.{All, sum-sub}
+use Rattle.list_words.proofs.Tests.{never}
 use Rattle.points.specs.declared.Point.{Point}
 use Rattle.points.specs.declared.Axis.{Axis}
 use Rattle.points.specs.declared.Axis.the-variants.{X, Y, Z}
@@ -26,7 +26,7 @@ use Rattle.crossings.specs.declared.Facet.{Facet}
 use Rattle.crossings.specs.declared.Crossing.{Crossing}
 use Rattle.crossings.specs.declared.Crossing.the-variants.{Miss, Cross}
 use Rattle.crossings.specs.Crossings.{count, S, against, paired, vv, ve, ev, vf, fv, ee, ef, fe, lower-ve, lower-ev, lower-vf, lower-fv, lower-ee, lower-ef, lower-fe}
-use Rattle.crossings.proofs.Table.{count-paired, count-against, count-ve, count-ev}
+use Rattle.crossings.proofs.Formulas.{count-paired, count-against, count-ve, count-ev}
 use Rattle.crossings.proofs.Lower.{zero-ve, zero-ev, zero-vf, zero-fv, zero-ee, zero-ef, zero-fe}
 use Rattle.crossings.proofs.Each.{each-vf, each-fv, each-ee, each-ef, each-fe}
 

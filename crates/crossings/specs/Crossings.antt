@@ -3,7 +3,7 @@
 use mathlib.Core.Bool.{Bool, true, false, not, cond}
 use mathlib.Core.List.{List, [], _∷_, _++_}
 use lib.IntN.{ℤ, pos, negℤ}
-use Rattle.sums.specs.Lists.{sumOf, nonzero}
+use Rattle.list_words.specs.Lists.{sumOf, nonzero}
 use Rattle.points.specs.declared.Point.{Point}
 use Rattle.points.specs.declared.PointPair.{PointPair}
 use Rattle.points.specs.declared.Axis.{Axis}

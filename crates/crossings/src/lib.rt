@@ -7,7 +7,7 @@ ghost use mathlib.Core.Path.{_≡_};
 ghost use mathlib.Core.Bool.{true, false, cond};
 ghost use Prim.Native.Nat.{_+_, _<_, _≤_, _^_};
 ghost use lib.IntN.{pos, natAbs, _+ℤ_};
-ghost use Rattle.sums.specs.Lists.{nonzero};
+ghost use Rattle.list_words.specs.Lists.{nonzero};
 ghost use Rattle.points.specs.Points as P;
 ghost use Rattle.crossings.specs.Crossings as C;
 

@@ -1,15 +1,15 @@
 // The pieces of one edge, as one of its half-edges has them: start, end, and the crossings that are marked, in the order of the other solid's facets.
 mod quiet;
 
-use ends::composite;
-use ends::places;
-use ends::rows;
+use composite_ends::composite;
+use composite_ends::places;
+use composite_ends::rows;
 use layouts::Plan;
 use results::End;
 ghost use Prim.Native.Nat.{_+_, _*_, _<_, _≤_};
 ghost use lib.ListN.{length};
-ghost use Rattle.joining.specs.Flat.{flat, Behind};
-ghost use Rattle.kept.specs.Kept as K;
+ghost use Rattle.joined_ends.specs.Words.{flat, Behind};
+ghost use Rattle.kept_lists.specs.Words as K;
 
 // However many crossings there are.
 fn long_pieces(
@@ -44,7 +44,7 @@ fn long_pieces(
         n += 1;
         i = marks::next(marks, i + 1, end);
     }
-    joining::join_at(all, n, list, to)
+    joined_ends::join_at(all, n, list, to)
 }
 
 // Up to six crossings: almost every edge that is crossed has no more.
@@ -83,7 +83,7 @@ fn few_pieces(
         n += 1;
         i = marks::next(marks, i + 1, end);
     }
-    joining::join_few_at(all, n, list, to)
+    joined_ends::join_few_at(all, n, list, to)
 }
 
 // "start (minus its inclusion), end (its inclusion), then crossings"; of a half-edge against its edge each count is negated, which turns each piece

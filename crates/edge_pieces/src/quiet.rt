@@ -4,7 +4,7 @@ ghost use mathlib.Core.List.{[], _∷_};
 ghost use Prim.Native.Nat.{_+_, _≤_};
 ghost use lib.ListN.{length};
 ghost use Rattle.results.specs.Pieces.{pieces};
-ghost use Rattle.joining.specs.Flat.{flat, Behind};
+ghost use Rattle.joined_ends.specs.Words.{flat, Behind};
 
 fn put_piece(from: u32, to: u32, list: &mut [u32], at: usize) -> usize
     requires { ⌜ at + 2 ≤ length (now list) ⌝ }
@@ -39,5 +39,5 @@ pub fn two_ends(a: End, b: End, list: &mut [u32], at: usize) -> usize
     }; 8];
     all[0] = a;
     all[1] = b;
-    joining::join_few_at(all, 2, list, at)
+    joined_ends::join_few_at(all, 2, list, at)
 }

@@ -9,14 +9,14 @@ use native.Mathlib.Numerals.{add-one}
 use lib.Dec.{eqb, eqb→eq, eqb-refl}
 use lib.ListN.{length, getD, take, set, length-set, length-append, length-map}
 use lib.Seq.{getD-set-same, getD-set-other, take-suc-set}
-use Rattle.sums.specs.Lists.{upTo, keep, before}
-use Rattle.sums.proofs.Sums.{All, all-at, all-mono, all-++, all-map-of, all-flatMap, flat-append}
-use Rattle.sums.proofs.Tests.{of-T, T-of, never, all-keep}
-use Rattle.sums.proofs.UpTo.{all-upTo, length-upTo, map-upTo-suc, flat-upTo-suc}
-use Rattle.sums.proofs.Closed.{same-half-sound, same-half-self}
-use Rattle.lists.proofs.Kept.{keep-append}
+use Rattle.list_words.specs.Lists.{upTo, keep, before}
+use Rattle.list_words.proofs.Sums.{All, all-at, all-mono, all-++, all-map-of, all-flatMap, flat-append}
+use Rattle.list_words.proofs.Tests.{of-T, T-of, never, all-keep}
+use Rattle.list_words.proofs.UpTo.{all-upTo, length-upTo, map-upTo-suc, flat-upTo-suc}
+use Rattle.list_words.proofs.Closed.{same-half-sound, same-half-self}
+use Rattle.list_stores.proofs.Kept.{keep-append}
 use Rattle.solids.specs.Solids.{Solid, vertices, edges, Half, same-half, pairs, is-edge, half-edges, solid}
-use Rattle.solids.specs.Table.{place}
+use Rattle.solids.specs.Words.{place}
 use Rattle.edges.specs.Words.{seen, edges-seen, edges-of, edge-number, two-each, Listed}
 use Rattle.solids.proofs.Pairs.{row}
 use Rattle.solids.proofs.Tally.{place-apart}

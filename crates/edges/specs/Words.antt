@@ -4,9 +4,9 @@ use mathlib.Core.List.{List, [], _∷_, _++_, map, flatMap, List·Memᴰ}
 use Prim.Native.Nat.{ℕ, _*_, _≤_}
 use lib.Ieee.{Float}
 use lib.ListN.{length, getD, take}
-use Rattle.sums.specs.Lists.{upTo, keep, before}
+use Rattle.list_words.specs.Lists.{upTo, keep, before}
 use Rattle.solids.specs.Solids.{Solid, Half, solid, same-half, half-edges, pairs, is-edge, edges}
-use Rattle.solids.specs.Table.{place, Named}
+use Rattle.solids.specs.Words.{place, Named}
 
 -- ---- the edges, listed row by row of the table
 

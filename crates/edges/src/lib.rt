@@ -5,12 +5,12 @@ ghost use mathlib.Core.List.{[]};
 ghost use Prim.Native.Nat.{_+_, _*_, _<_, _≤_};
 ghost use lib.ListN.{length};
 ghost use Rattle.solids.specs.Solids as So;
-ghost use Rattle.solids.specs.Table as Ta;
-ghost use Rattle.edges.specs.Words as Wo;
+ghost use Rattle.solids.specs.Words as Sw;
+ghost use Rattle.edges.specs.Words as Ed;
 
 // Does some half-edge join p and q, p being the lower?
 fn joins(table: &[u16; 16384], corners: &[u32], p: u32, q: u32) -> bool
-    requires { ⌜ (p < 128) × (q < 128) × Ta.Tallied (now table) (So.half-edges (So.solid [] (now corners))) ⌝ }
+    requires { ⌜ (p < 128) × (q < 128) × Sw.Tallied (now table) (So.half-edges (So.solid [] (now corners))) ⌝ }
     ensures { λ r. ⌜ r ≡ So.is-edge (So.half-edges (So.solid [] (now (corners .entry)))) (p, q) ⌝ }
 {
     if p < q {
@@ -36,13 +36,13 @@ fn put_edge(
     numbers: &mut [u16; 16384],
     k: usize,
 ) -> usize
-    requires { ⌜ (p < n) × (q < n) × (n ≤ 128) × Ta.Tallied (now table) (So.half-edges (So.solid [] (now corners))) ⌝ }
-    requires { ⌜ Wo.Listed (Wo.edges-seen (now corners) n p q) (now ends) (now numbers) k ⌝ }
-    ensures { λ r. ⌜ Wo.Listed (Wo.edges-seen (now (corners .entry)) n p (q + 1)) (now (ends .exit)) (now (numbers .exit)) r ⌝ }
+    requires { ⌜ (p < n) × (q < n) × (n ≤ 128) × Sw.Tallied (now table) (So.half-edges (So.solid [] (now corners))) ⌝ }
+    requires { ⌜ Ed.Listed (Ed.edges-seen (now corners) n p q) (now ends) (now numbers) k ⌝ }
+    ensures { λ r. ⌜ Ed.Listed (Ed.edges-seen (now (corners .entry)) n p (q + 1)) (now (ends .exit)) (now (numbers .exit)) r ⌝ }
 {
     if joins(table, corners, p, q) {
-        lists::store(ends, 2 * k, p);
-        lists::store(ends, 2 * k + 1, q);
+        list_stores::store(ends, 2 * k, p);
+        list_stores::store(ends, 2 * k + 1, q);
         let at = tally::place(p, q);
         numbers[at] = k as u16;
         return k + 1;
@@ -60,9 +60,9 @@ fn put_row(
     numbers: &mut [u16; 16384],
     k: usize,
 ) -> usize
-    requires { ⌜ (p < n) × (n ≤ 128) × Ta.Tallied (now table) (So.half-edges (So.solid [] (now corners))) ⌝ }
-    requires { ⌜ Wo.Listed (Wo.edges-seen (now corners) n p 0) (now ends) (now numbers) k ⌝ }
-    ensures { λ r. ⌜ Wo.Listed (Wo.edges-seen (now (corners .entry)) n (p + 1) 0) (now (ends .exit)) (now (numbers .exit)) r ⌝ }
+    requires { ⌜ (p < n) × (n ≤ 128) × Sw.Tallied (now table) (So.half-edges (So.solid [] (now corners))) ⌝ }
+    requires { ⌜ Ed.Listed (Ed.edges-seen (now corners) n p 0) (now ends) (now numbers) k ⌝ }
+    ensures { λ r. ⌜ Ed.Listed (Ed.edges-seen (now (corners .entry)) n (p + 1) 0) (now (ends .exit)) (now (numbers .exit)) r ⌝ }
 {
     let mut many = k;
     let mut q = 0;
@@ -81,9 +81,9 @@ pub fn list_edges(
     ends: &mut [u32],
     numbers: &mut [u16; 16384],
 ) -> usize
-    requires { ⌜ (n ≤ 128) × Ta.Tallied (now table) (So.half-edges (So.solid [] (now corners))) ⌝ }
-    requires { ⌜ Wo.Listed [] (now ends) (now numbers) 0 ⌝ }
-    ensures { λ r. ⌜ Wo.Listed (Wo.edges-of (now (corners .entry)) n) (now (ends .exit)) (now (numbers .exit)) r ⌝ }
+    requires { ⌜ (n ≤ 128) × Sw.Tallied (now table) (So.half-edges (So.solid [] (now corners))) ⌝ }
+    requires { ⌜ Ed.Listed [] (now ends) (now numbers) 0 ⌝ }
+    ensures { λ r. ⌜ Ed.Listed (Ed.edges-of (now (corners .entry)) n) (now (ends .exit)) (now (numbers .exit)) r ⌝ }
 {
     let mut many = 0;
     let mut p = 0;
@@ -96,8 +96,8 @@ pub fn list_edges(
 
 // Edge number e, from its two ends in the list.
 pub fn edge_at(points: &[f64], ends: &[u32], corners: &[u32], e: usize) -> Edge
-    requires { ⌜ Wo.Ready (now points) (now corners) (now ends) × (e < length (So.edges (So.solid (now points) (now corners)))) ⌝ }
-    ensures { λ r. ⌜ r ≡ So.edge (So.solid (now (points .entry)) (now (corners .entry))) (Wo.edge-numbered (So.solid (now (points .entry)) (now (corners .entry))) e) ⌝ }
+    requires { ⌜ Ed.Ready (now points) (now corners) (now ends) × (e < length (So.edges (So.lent points corners))) ⌝ }
+    ensures { λ r. ⌜ r ≡ So.edge (So.lent (points .entry) (corners .entry)) (Ed.edge-numbered (So.lent (points .entry) (corners .entry)) e) ⌝ }
 {
     let start = ends[2 * e] as usize;
     let end = ends[2 * e + 1] as usize;

@@ -1,13 +1,13 @@
 // The pieces of a facet of A with a facet of B.
-use ends::composite;
+use composite_ends::composite;
 use layouts::Plan;
 use results::End;
 ghost use Prim.Native.Nat.{_+_, _<_, _≤_};
 ghost use lib.ListN.{length};
 ghost use Rattle.results.specs.Pieces.{pieces};
-ghost use Rattle.joining.specs.Flat.{flat, Behind};
-ghost use Rattle.tables.specs.Table as T;
-ghost use Rattle.kept.specs.Kept as K;
+ghost use Rattle.joined_ends.specs.Words.{flat, Behind};
+ghost use Rattle.vertex_table.specs.Words as T;
+ghost use Rattle.kept_lists.specs.Words as K;
 
 // The six ends are joined; `turn` turns each piece round.
 fn pair_pieces(
@@ -36,7 +36,7 @@ fn pair_pieces(
     all[3] = composite::b_end(first, crossed, halves, plan, f, 3 * m, turn);
     all[4] = composite::b_end(first, crossed, halves, plan, f, 3 * m + 1, turn);
     all[5] = composite::b_end(first, crossed, halves, plan, f, 3 * m + 2, turn);
-    joining::join_few_at(all, 6, list, to)
+    joined_ends::join_few_at(all, 6, list, to)
 }
 
 // Facet x, which is A's or, from A's facet count on, B's, with facet i of the other solid.

@@ -4,11 +4,11 @@ ghost use mathlib.Core.Path.{_≡_};
 ghost use Prim.Native.Nat.{_/_, _%_, _<_};
 ghost use lib.ListN.{length};
 ghost use lib.Ieee.{isNan};
-ghost use Rattle.sums.specs.Lists.{any, upTo};
+ghost use Rattle.list_words.specs.Lists.{any, upTo};
 ghost use Rattle.points.specs.Points.{coordinates};
 ghost use Rattle.solids.specs.Solids as So;
 ghost use Rattle.solids.specs.Admission as Ad;
-ghost use Rattle.solids.specs.Table as Ta;
+ghost use Rattle.solids.specs.Words as Sw;
 
 // A NaN, and nothing else, differs from itself.
 fn blank(x: f64) -> bool
@@ -25,13 +25,13 @@ fn beyond(x: f64) -> bool
 
 // Check 3 (blanks) or check 4 (beyond the limit) of one coordinate.
 fn bad(blanks: bool, x: f64) -> bool
-    ensures { λ r. ⌜ r ≡ Ta.bad blanks x ⌝ }
+    ensures { λ r. ⌜ r ≡ Sw.bad blanks x ⌝ }
 {
     if blanks { blank(x) } else { beyond(x) }
 }
 
 pub fn bad_point(blanks: bool, v: Point) -> bool
-    ensures { λ r. ⌜ r ≡ any (Ta.bad blanks) (coordinates v) ⌝ }
+    ensures { λ r. ⌜ r ≡ any (Sw.bad blanks) (coordinates v) ⌝ }
 {
     if bad(blanks, v.x) {
         true
@@ -45,7 +45,7 @@ pub fn bad_point(blanks: bool, v: Point) -> bool
 // Vertex by vertex; of whole threes no coordinate is left out.
 pub fn some_bad(blanks: bool, points: &[f64]) -> bool
     requires { ⌜ length (now points) % 3 ≡ 0 ⌝ }
-    ensures { λ r. ⌜ r ≡ any (Ta.bad blanks) (now (points .entry)) ⌝ }
+    ensures { λ r. ⌜ r ≡ any (Sw.bad blanks) (now (points .entry)) ⌝ }
 {
     let mut i = 0;
     while i < points.len() / 3 {
@@ -89,7 +89,7 @@ fn named_twice(p: u32, q: u32, r: u32) -> bool
 
 fn faulty(points: &[f64], corners: &[u32], f: usize) -> bool
     requires { ⌜ f < length (now corners) / 3 ⌝ }
-    ensures { λ r. ⌜ r ≡ Ad.faulty (So.solid (now (points .entry)) (now (corners .entry))) f ⌝ }
+    ensures { λ r. ⌜ r ≡ Ad.faulty (So.lent (points .entry) (corners .entry)) f ⌝ }
 {
     let p = corners[3 * f];
     let q = corners[3 * f + 1];
@@ -102,7 +102,7 @@ fn faulty(points: &[f64], corners: &[u32], f: usize) -> bool
 }
 
 pub fn some_faulty(points: &[f64], corners: &[u32]) -> bool
-    ensures { λ r. ⌜ r ≡ any (Ad.faulty (So.solid (now (points .entry)) (now (corners .entry)))) (upTo (length (now (corners .entry)) / 3)) ⌝ }
+    ensures { λ r. ⌜ r ≡ any (Ad.faulty (So.lent (points .entry) (corners .entry))) (upTo (length (now (corners .entry)) / 3)) ⌝ }
 {
     let mut f = 0;
     while f < corners.len() / 3 {

@@ -5,8 +5,8 @@ use mathlib.Core.List.{List, [], _∷_}
 use Prim.Native.Nat.{ℕ, _+_, _≤_}
 use native.Mathlib.Nat.{le-refl}
 use lib.IntN.{pos, natAbs, _+ℤ_}
-use Rattle.sums.specs.Lists.{sumOf, nonzero}
-use Rattle.sums.proofs.Integers.{Bnd, bnd-add}
+use Rattle.list_words.specs.Lists.{sumOf, nonzero}
+use Rattle.list_words.proofs.Integers.{Bnd, bnd-add}
 use Rattle.points.specs.declared.Point.{Point}
 use Rattle.points.specs.declared.Axis.{Axis}
 use Rattle.points.specs.Points.{placed}

@@ -4,7 +4,7 @@ use mathlib.Core.List.{List, [], _∷_, _++_, flatMap, append-assoc}
 use Prim.Native.Nat.{ℕ, _+_, _*_, _≤_}
 use native.Mathlib.Omega.{arith}
 use lib.ListN.{length, take}
-use Rattle.sums.proofs.Sums.{All, all-drop}
+use Rattle.list_words.proofs.Sums.{All, all-drop}
 use Rattle.numbers.specs.Numbers.{Byte}
 use Rattle.points.specs.declared.Point.{Point}
 use Rattle.housefile.specs.declared.Record.the-variants.{Vx, En}

@@ -5,7 +5,7 @@ use Prim.Native.Nat.{ℕ, _+_, _≤_}
 use native.Mathlib.Omega.{arith}
 use lib.ListN.{length, take, drop, length-append, length-drop}
 use lib.Seq.{take-add, drop-at, length-take-le}
-use Rattle.sums.proofs.Sums.{All}
+use Rattle.list_words.proofs.Sums.{All}
 use Rattle.numbers.specs.Numbers.{Byte}
 use Rattle.housefile.specs.declared.Record.{Record}
 use Rattle.housefile.specs.Records.{size, decoded, encoded}

@@ -10,8 +10,8 @@ use lib.ListN.{length, take, drop, length-append, take-append-drop}
 use lib.Seq.{drop-at, take-add, length-take-le}
 use lib.Ieee.{Float, isNan}
 use borrow.Author.Tests.{leb-true, eqb-true, le-leb, lt-leb, eq-eqb, ne-eqb}
-use Rattle.sums.proofs.Sums.{All, all-++, all-flatMap}
-use Rattle.sums.proofs.Tests.{and-true}
+use Rattle.list_words.proofs.Sums.{All, all-++, all-flatMap}
+use Rattle.list_words.proofs.Tests.{and-true}
 use Rattle.numbers.specs.Numbers.{Byte, F64, number, number-at, float-at, bytes, float-bytes}
 use Rattle.numbers.proofs.Numbers.{length-bytes, all-bytes, all-float-bytes, number-front, float-front, number-at-lt, bytes-at, length-float-bytes, number-there, float-there, float-fits, float-bytes-at}
 use Rattle.points.specs.declared.Point.{Point}

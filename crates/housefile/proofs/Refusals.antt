@@ -10,9 +10,9 @@ use lib.ListN.{length}
 use lib.Dec.{ltb}
 use lib.Ieee.{Float, isNan}
 use borrow.Author.Tests.{lt-ltb, le-ltb, ltb-false}
-use Rattle.sums.specs.Lists.{upTo, any, onto}
-use Rattle.sums.proofs.Sums.{All}
-use Rattle.sums.proofs.Tests.{or-false}
+use Rattle.list_words.specs.Lists.{upTo, any, onto}
+use Rattle.list_words.proofs.Sums.{All}
+use Rattle.list_words.proofs.Tests.{or-false}
 use Rattle.solids.specs.declared.Answer.{Answer}
 use Rattle.solids.specs.declared.Verdict.{Verdict}
 use Rattle.solids.specs.declared.Verdict.the-variants.{Accepted, Refused}

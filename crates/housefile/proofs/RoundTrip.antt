@@ -8,8 +8,8 @@ use native.Mathlib.Omega.{arith}
 use lib.ListN.{length, take, drop}
 use lib.Seq.{take-at, length-take-le}
 use lib.Ieee.{Float, isNan}
-use Rattle.sums.specs.Lists.{onto}
-use Rattle.sums.proofs.Sums.{All, all-of, all-flatMap, all-of-flatMap}
+use Rattle.list_words.specs.Lists.{onto}
+use Rattle.list_words.proofs.Sums.{All, all-of, all-flatMap, all-of-flatMap}
 use Rattle.numbers.specs.Numbers.{Byte, F64}
 use Rattle.points.specs.Points.{coordinates}
 use Rattle.solids.specs.Refusals.{no-refusal}

@@ -5,10 +5,10 @@ use Prim.Native.Nat.{ℕ, _+_, _*_, _/_, _%_}
 use native.Mathlib.Omega.{arith}
 use lib.ListN.{length, getD}
 use lib.Ieee.{Float}
-use Rattle.sums.specs.Lists.{upTo}
-use Rattle.sums.proofs.Sums.{All, all-++, all-flatMap, all-of-flatMap}
-use Rattle.sums.proofs.UpTo.{all-upTo}
-use Rattle.sums.proofs.Threes.{in-threes, third-threes, rest-threes, flat-threes}
+use Rattle.list_words.specs.Lists.{upTo}
+use Rattle.list_words.proofs.Sums.{All, all-++, all-flatMap, all-of-flatMap}
+use Rattle.list_words.proofs.UpTo.{all-upTo}
+use Rattle.list_words.proofs.Threes.{in-threes, third-threes, rest-threes, flat-threes}
 use Rattle.numbers.specs.Numbers.{Byte, F64}
 use Rattle.points.specs.declared.Point.{Point}
 use Rattle.points.specs.declared.Axis.the-variants.{X, Y, Z}

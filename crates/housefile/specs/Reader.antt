@@ -6,7 +6,7 @@ use mathlib.Core.List.{List, [], _∷_, _++_}
 use lib.ListN.{length, drop}
 use lib.Dec.{ltb}
 use lib.Ieee.{Float}
-use Rattle.sums.specs.Lists.{onto}
+use Rattle.list_words.specs.Lists.{onto}
 use Rattle.points.specs.Points.{coordinates}
 use Rattle.solids.specs.declared.Answer.{Answer}
 use Rattle.solids.specs.declared.Verdict.{Verdict}

@@ -5,7 +5,7 @@ use mathlib.Core.Path.{_≡_}
 use mathlib.Core.List.{List, _++_, List·Memᴰ}
 use lib.ListN.{length, take}
 use lib.Ieee.{Float}
-use Rattle.sums.specs.Lists.{onto}
+use Rattle.list_words.specs.Lists.{onto}
 use Rattle.numbers.specs.Numbers.{Byte, F64}
 use Rattle.solids.specs.declared.Verdict.the-variants.{Accepted}
 use Rattle.solids.specs.Refusals.{no-refusal}

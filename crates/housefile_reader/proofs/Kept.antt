@@ -6,7 +6,7 @@ use Prim.Native.Nat.{ℕ, _*_, _<_, _≤_}
 use lib.Seq.{sets}
 use lib.Dec.{ltb}
 use borrow.Author.Tests.{lt-ltb, le-ltb}
-use Rattle.housefile_reader.specs.Walking.{kept}
+use Rattle.housefile_reader.specs.Words.{kept}
 
 module _ {A : Type 0} (room i : ℕ) where
   pub kept-within : (new l : List A) → i < room → sets l (3 * i) new ≡ kept room i new l

@@ -8,7 +8,7 @@ use lib.ListN.{length, take, length-take}
 use lib.Dec.{ltb}
 use lib.Ieee.{Float}
 use borrow.Author.Tests.{ltb-false}
-use Rattle.sums.proofs.Tests.{never, or-false}
+use Rattle.list_words.proofs.Tests.{never, or-false}
 use Rattle.solids.specs.declared.Answer.{Answer}
 use Rattle.solids.specs.declared.Verdict.{Verdict}
 use Rattle.solids.specs.declared.Verdict.the-variants.{Accepted, Refused}
@@ -18,7 +18,7 @@ use Rattle.solids.specs.Admission.{uneven, too-many, check-sizes, admission}
 use Rattle.solids.proofs.Orders.{all-accepted, not-given}
 use Rattle.housefile_reader.specs.declared.Walk.{Walk}
 use Rattle.housefile.specs.Reader.{Layout, fault, laid, unread, reading, too-short, read-solid, by-layout}
-use Rattle.housefile_reader.specs.Walking.{Found, Scanned, many, short, by-numbers, refusal, handed-over}
+use Rattle.housefile_reader.specs.Words.{Found, Scanned, many, short, by-numbers, refusal, handed-over}
 use Rattle.housefile.proofs.Refusals.{later-checks, even, read-as-admission}
 
 -- a refusal of the first checks decides

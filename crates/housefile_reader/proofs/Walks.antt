@@ -10,13 +10,13 @@ use lib.Seq.{sets, sets-eq, take-at, drop-drop, length-sets}
 use lib.Dec.{ltb, eqb}
 use lib.Ieee.{Float}
 use borrow.Author.Tests.{lt-ltb, ne-eqb}
-use Rattle.sums.specs.Lists.{one-if}
+use Rattle.list_words.specs.Lists.{one-if}
 use Rattle.housefile_reader.specs.declared.Walk.{Walk}
 use Rattle.housefile.specs.declared.Record.{Record}
 use Rattle.housefile.specs.declared.Record.the-variants.{Vx, Fc, En, Fault}
 use Rattle.housefile.specs.Records.{size, decoded}
 use Rattle.housefile.specs.Reader.{Layout, fault, laid, after, layout}
-use Rattle.housefile_reader.specs.Walking.{stepped, points-of, corners-of, kept, Held, Scanned}
+use Rattle.housefile_reader.specs.Words.{stepped, points-of, corners-of, kept, Held, Scanned}
 use Rattle.housefile.proofs.Records.{size-within}
 use Rattle.housefile_reader.proofs.Kept.{kept-nothing}
 use Rattle.housefile.proofs.Steps.{layout-from, at-end, at-fault, late-vertex, at-vertex, at-facet, after-none, after-after}

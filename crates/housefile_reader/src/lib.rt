@@ -1,5 +1,4 @@
 // The reader: one walk over a file's records, which keeps as much as an admitted solid can have; then the checks; then the lent lists.
-use checks::admission;
 use housefile::Read;
 use housefile::Record;
 use points::Point;
@@ -13,7 +12,7 @@ ghost use Rattle.points.specs.Points.{coordinates};
 ghost use Rattle.solids.specs.Solids as So;
 ghost use Rattle.housefile.specs.Records as Rc;
 ghost use Rattle.housefile.specs.Reader as Re;
-ghost use Rattle.housefile_reader.specs.Walking as Wa;
+ghost use Rattle.housefile_reader.specs.Words as Hr;
 
 // How far a reader has walked over a file's records: whether there are more to come, whether the layout is broken, the bytes walked over and
 // how many vertices and facets stood there.
@@ -28,7 +27,7 @@ pub struct Walk {
 // The walk, one record further. "All VX come before all FC", so a vertex behind a facet breaks the layout.
 fn step(found: Record, w: Walk) -> Walk
     requires { ⌜ (w .vertices ≤ w .used) × (w .facets ≤ w .used) × (w .used + Rc.size found < 2 ^ 64) ⌝ }
-    ensures { λ r. ⌜ r ≡ Wa.stepped found w ⌝ }
+    ensures { λ r. ⌜ r ≡ Hr.stepped found w ⌝ }
 {
     match found {
         Record::Vx(_) => Walk {
@@ -63,25 +62,25 @@ fn step(found: Record, w: Walk) -> Walk
 }
 
 fn keep_vertex(points: &mut [f64; 384], i: usize, v: Point)
-    ensures { λ _. ⌜ now (points .exit) ≡ Wa.kept 128 i (coordinates v) (now (points .entry)) ⌝ }
+    ensures { λ _. ⌜ now (points .exit) ≡ Hr.kept 128 i (coordinates v) (now (points .entry)) ⌝ }
 {
     if i < 128 {
-        lists::put_point(v, points, 3 * i);
+        list_stores::put_point(v, points, 3 * i);
     }
 }
 
 fn keep_facet(corners: &mut [u32; 768], f: usize, p: u32, q: u32, r: u32)
-    ensures { λ _. ⌜ now (corners .exit) ≡ Wa.kept 256 f (p ∷ q ∷ r ∷ []) (now (corners .entry)) ⌝ }
+    ensures { λ _. ⌜ now (corners .exit) ≡ Hr.kept 256 f (p ∷ q ∷ r ∷ []) (now (corners .entry)) ⌝ }
 {
     if f < 256 {
-        lists::put_three(p, q, r, corners, 3 * f);
+        list_stores::put_three(p, q, r, corners, 3 * f);
     }
 }
 
 // What a record says, kept where the walk stands.
 fn keep(found: Record, w: Walk, points: &mut [f64; 384], corners: &mut [u32; 768])
-    ensures { λ _. ⌜ now (points .exit) ≡ Wa.kept 128 (w .vertices) (Wa.points-of found) (now (points .entry)) ⌝ }
-    ensures { λ _. ⌜ now (corners .exit) ≡ Wa.kept 256 (w .facets) (Wa.corners-of found) (now (corners .entry)) ⌝ }
+    ensures { λ _. ⌜ now (points .exit) ≡ Hr.kept 128 (w .vertices) (Hr.points-of found) (now (points .entry)) ⌝ }
+    ensures { λ _. ⌜ now (corners .exit) ≡ Hr.kept 256 (w .facets) (Hr.corners-of found) (now (corners .entry)) ⌝ }
 {
     match found {
         Record::Vx(v) => keep_vertex(points, w.vertices, v),
@@ -94,7 +93,7 @@ fn keep(found: Record, w: Walk, points: &mut [f64; 384], corners: &mut [u32; 768
 // The whole layout: "each record begins where the one before it ended".
 pub fn scan(bytes: &[u8], points: &mut [f64; 384], corners: &mut [u32; 768]) -> Walk
     requires { ⌜ (length (now points) ≡ 384) × (length (now corners) ≡ 768) ⌝ }
-    ensures { λ r. ⌜ Wa.Scanned (Re.layout (now (bytes .entry))) r (now (points .exit)) (now (corners .exit)) ⌝ }
+    ensures { λ r. ⌜ Hr.Scanned (Re.layout (now (bytes .entry))) r (now (points .exit)) (now (corners .exit)) ⌝ }
     ensures { λ _. ⌜ (length (now (points .exit)) ≡ 384) × (length (now (corners .exit)) ≡ 768) ⌝ }
 {
     let mut w = Walk {
@@ -115,7 +114,7 @@ pub fn scan(bytes: &[u8], points: &mut [f64; 384], corners: &mut [u32; 768]) -> 
 
 // The checks that look at numbers alone, in the reader's order: 9, then 2, then 8.
 fn refusal(w: Walk, room_points: usize, room_corners: usize) -> Verdict
-    ensures { λ r. ⌜ r ≡ Wa.refusal w «room_points» «room_corners» ⌝ }
+    ensures { λ r. ⌜ r ≡ Hr.refusal w «room_points» «room_corners» ⌝ }
 {
     if w.fault {
         return Verdict::Refused(Answer { number: 9 });
@@ -136,7 +135,7 @@ fn refusal(w: Walk, room_points: usize, room_corners: usize) -> Verdict
 }
 
 fn refused(answer: Answer) -> Read
-    ensures { λ r. ⌜ r ≡ Wa.unread answer ⌝ }
+    ensures { λ r. ⌜ r ≡ Hr.unread answer ⌝ }
 {
     Read {
         answer,
@@ -155,14 +154,14 @@ fn hand_over(
     corners: &mut [u32],
 ) -> Read
     requires { ⌜ (length (now «from_points») ≤ length (now points)) × (length (now «from_corners») ≤ length (now corners)) ⌝ }
-    ensures { λ r. ⌜ Re.outcome r (now (points .exit)) (now (corners .exit)) ≡ Wa.handed-over (So.solid (now («from_points» .entry)) (now («from_corners» .entry))) used (now (points .entry)) (now (corners .entry)) ⌝ }
+    ensures { λ r. ⌜ Re.outcome r (now (points .exit)) (now (corners .exit)) ≡ Hr.handed-over (So.lent («from_points» .entry) («from_corners» .entry)) used (now (points .entry)) (now (corners .entry)) ⌝ }
 {
     let said = admission::admit(from_points, from_corners);
     if let Verdict::Refused(n) = said {
         return refused(n);
     }
-    lists::copy_points(from_points, points);
-    lists::copy_corners(from_corners, corners);
+    list_stores::copy_points(from_points, points);
+    list_stores::copy_corners(from_corners, corners);
     Read {
         answer: Answer { number: 0 },
         vertices: from_points.len() / 3,

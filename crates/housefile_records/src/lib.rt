@@ -8,7 +8,7 @@ ghost use Prim.Native.Nat.{_+_, _≤_};
 ghost use lib.ListN.{length};
 ghost use lib.Seq.{sets};
 ghost use lib.Ieee.{isNan};
-ghost use Rattle.sums.specs.Lists.{any};
+ghost use Rattle.list_words.specs.Lists.{any};
 ghost use Rattle.numbers.specs.Numbers as Nu;
 ghost use Rattle.points.specs.Points.{coordinates};
 ghost use Rattle.housefile.specs.Records as Rc;

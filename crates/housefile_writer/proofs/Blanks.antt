@@ -6,9 +6,9 @@ use Prim.Native.Nat.{ℕ, _+_, _*_, _/_, _<_}
 use native.Mathlib.Omega.{arith}
 use lib.ListN.{length, getD}
 use lib.Ieee.{Float, isNan}
-use Rattle.sums.specs.Lists.{any}
-use Rattle.sums.proofs.Searches.{any-found}
-use Rattle.sums.proofs.Tests.{never}
+use Rattle.list_words.specs.Lists.{any}
+use Rattle.list_words.proofs.Searches.{any-found}
+use Rattle.list_words.proofs.Tests.{never}
 use Rattle.points.specs.Points.{coordinates}
 use Rattle.solids.specs.Solids.{solid, vertex}
 

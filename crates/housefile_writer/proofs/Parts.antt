@@ -5,15 +5,15 @@ use Prim.Native.Nat.{ℕ, _+_, _*_, _≤_}
 use native.Mathlib.Nat.{zero-add}
 use lib.ListN.{length}
 use lib.Seq.{sets}
-use Rattle.sums.specs.Lists.{onto}
-use Rattle.lists.proofs.Stores.{sets-onto, sets-three, length-run}
+use Rattle.list_words.specs.Lists.{onto}
+use Rattle.list_stores.proofs.Stores.{sets-onto, sets-three, length-run}
 use Rattle.solids.specs.Solids.{Solid, vertices, facets, vertex, corner}
 use Rattle.housefile.specs.declared.Record.{Record}
 use Rattle.housefile.specs.declared.Record.the-variants.{Vx, Fc, En}
 use Rattle.housefile.specs.Records.{encoded}
 use Rattle.housefile.specs.Writer.{file}
 use Rattle.housefile.proofs.Records.{length-encoded}
-use Rattle.housefile_writer.specs.Parts.{vertex-part, facet-part}
+use Rattle.housefile_writer.specs.Words.{vertex-part, facet-part}
 
 pub file-put : (s : Solid) (old : List ℕ) → length (file s) ≤ length old
     → sets (sets (sets old 0 (vertex-part s)) (26 * vertices s) (facet-part s)) (26 * vertices s + 14 * facets s) (encoded En) ≡ onto (file s) old

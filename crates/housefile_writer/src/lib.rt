@@ -1,5 +1,4 @@
 // The writer: a solid's file put into lent bytes.
-use checks::admission;
 use housefile::Written;
 use solids::Answer;
 use solids::Verdict;
@@ -10,14 +9,14 @@ ghost use Prim.Native.Nat.{_+_, _*_, _/_, _≤_};
 ghost use lib.ListN.{length};
 ghost use lib.Seq.{sets};
 ghost use lib.Ieee.{isNan};
-ghost use Rattle.sums.specs.Lists.{any};
+ghost use Rattle.list_words.specs.Lists.{any};
 ghost use Rattle.solids.specs.Solids as So;
 ghost use Rattle.housefile.specs.Writer as Wr;
-ghost use Rattle.housefile_writer.specs.Parts as Pa;
+ghost use Rattle.housefile_writer.specs.Words as Hw;
 
 fn put_vertices(points: &[f64], bytes: &mut [u8])
     requires { ⌜ (26 * (length (now points) / 3) ≤ length (now bytes)) × (any isNan (now points) ≡ false) ⌝ }
-    ensures { λ _. ⌜ now (bytes .exit) ≡ sets (now (bytes .entry)) 0 (Pa.vertex-part (So.solid (now (points .entry)) [])) ⌝ }
+    ensures { λ _. ⌜ now (bytes .exit) ≡ sets (now (bytes .entry)) 0 (Hw.vertex-part (So.solid (now (points .entry)) [])) ⌝ }
 {
     let mut i = 0;
     while i < points.len() / 3 {
@@ -28,7 +27,7 @@ fn put_vertices(points: &[f64], bytes: &mut [u8])
 
 fn put_facets(corners: &[u32], bytes: &mut [u8], at: usize)
     requires { ⌜ at + 14 * (length (now corners) / 3) ≤ length (now bytes) ⌝ }
-    ensures { λ _. ⌜ now (bytes .exit) ≡ sets (now (bytes .entry)) at (Pa.facet-part (So.solid [] (now (corners .entry)))) ⌝ }
+    ensures { λ _. ⌜ now (bytes .exit) ≡ sets (now (bytes .entry)) at (Hw.facet-part (So.solid [] (now (corners .entry)))) ⌝ }
 {
     let mut f = 0;
     while f < corners.len() / 3 {
@@ -45,7 +44,7 @@ fn put_facets(corners: &[u32], bytes: &mut [u8], at: usize)
 
 // The checks 1 to 6, then 8; nothing is written before all have passed.
 pub fn write(points: &[f64], corners: &[u32], bytes: &mut [u8]) -> Written
-    ensures { λ r. ⌜ Wr.WriteFile (So.solid (now (points .entry)) (now (corners .entry))) (now (bytes .entry)) (r, now (bytes .exit)) ⌝ }
+    ensures { λ r. ⌜ Wr.WriteFile (So.lent (points .entry) (corners .entry)) (now (bytes .entry)) (r, now (bytes .exit)) ⌝ }
 {
     let said = admission::admit(points, corners);
     if let Verdict::Refused(answer) = said {

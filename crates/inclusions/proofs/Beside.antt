@@ -6,10 +6,10 @@ use mathlib.Core.List.{List}
 use Prim.Native.Nat.{ℕ, _<_}
 use lib.IntN.{pos, negℤ}
 use lib.Ieee.{lt}
-use Rattle.sums.specs.Lists.{sumOf, upTo}
-use Rattle.sums.proofs.Sums.{sum-zero, sum-keep}
-use Rattle.sums.proofs.Tests.{not-false, or-true}
-use Rattle.sums.proofs.UpTo.{sum-upTo}
+use Rattle.list_words.specs.Lists.{sumOf, upTo}
+use Rattle.list_words.proofs.Sums.{sum-zero, sum-keep}
+use Rattle.list_words.proofs.Tests.{not-false, or-true}
+use Rattle.list_words.proofs.UpTo.{sum-upTo}
 use Rattle.points.specs.declared.Point.{Point}
 use Rattle.points.specs.declared.Axis.{Axis}
 use Rattle.points.specs.declared.Axis.the-variants.{X, Y, Z}
@@ -17,16 +17,14 @@ use Rattle.points.specs.Points.{coordinate}
 use Rattle.crossings.specs.Crossings.{S}
 use Rattle.solids.specs.Solids.{Solid, facets, facet}
 use Rattle.solids.specs.Containment.{in-A, in-B}
-use Rattle.solids.specs.Table.{facet-S, contained}
+use Rattle.solids.specs.Words.{facet-S, contained}
 use Rattle.solids.proofs.Admitted.{Passed}
-use Rattle.near.specs.declared.Bounds.{Bounds}
-use Rattle.near.specs.declared.Thing.the-variants.{Facets}
-use Rattle.near.specs.Boxes.{dot, apart-on, beside, far}
-use Rattle.near.specs.Things.{box-of, whole, near-to}
-use Rattle.near.proofs.Inside.{In, dot-in}
-use Rattle.near.proofs.Misses.{beside-vf, beside-fv, below-vf, below-fv}
-use Rattle.near.proofs.Things.{Lies, lies-box, lies-whole}
-use Rattle.near.specs.Boxes.{Present}
+use Rattle.bounds.specs.declared.Bounds.{Bounds}
+use Rattle.bounds.specs.declared.Thing.the-variants.{Facets}
+use Rattle.bounds.specs.Words.{dot, apart-on, beside, far, box-of, whole, near-to, Present}
+use Rattle.bounds.proofs.Inside.{In, dot-in}
+use Rattle.bounds.proofs.Misses.{beside-vf, beside-fv, below-vf, below-fv}
+use Rattle.bounds.proofs.Things.{Lies, lies-box, lies-whole}
 use Rattle.inclusions.specs.Words.{idle}
 
 or-turned : (p q : Bool) → p || q ≡ q || p

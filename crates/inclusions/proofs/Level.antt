@@ -5,28 +5,26 @@ use mathlib.Core.Logic.{inl, inr}
 use mathlib.Core.Bool.{Bool, true, false, cond}
 use Prim.Native.Nat.{ℕ, _<_}
 use lib.IntN.{ℤ, pos, negℤ}
-use Rattle.sums.specs.Lists.{sumOf, upTo}
-use Rattle.sums.proofs.Sums.{sum-ext, sum-neg, sum-zero}
-use Rattle.sums.proofs.Tests.{or-true}
-use Rattle.sums.proofs.UpTo.{sum-upTo}
+use Rattle.list_words.specs.Lists.{sumOf, upTo}
+use Rattle.list_words.proofs.Sums.{sum-ext, sum-neg, sum-zero}
+use Rattle.list_words.proofs.Tests.{or-true}
+use Rattle.list_words.proofs.UpTo.{sum-upTo}
 use Rattle.points.specs.declared.Point.{Point}
 use Rattle.points.specs.declared.Axis.the-variants.{Y, Z}
 use Rattle.crossings.specs.Crossings.{count, S, ve, ev, vf, fv}
-use Rattle.crossings.proofs.Table.{count-vf, count-fv}
+use Rattle.crossings.proofs.Formulas.{count-vf, count-fv}
 use Rattle.solids.specs.Solids.{Solid, Half, facets, corner, along, edge, facet}
 use Rattle.solids.specs.Solids as So
 use Rattle.solids.specs.Containment.{in-A, in-B}
-use Rattle.solids.specs.Table.{contained}
+use Rattle.solids.specs.Words.{contained}
 use Rattle.solids.proofs.Admitted.{Passed}
 use Rattle.solids.proofs.Around.{around, around-closed}
 use Rattle.solids.proofs.Shut.{simple, closed}
-use Rattle.near.specs.declared.Thing.the-variants.{Facets}
-use Rattle.near.specs.Boxes.{dot, apart-on, beside, apart}
-use Rattle.near.specs.Things.{whole}
-use Rattle.near.proofs.Inside.{dot-in}
-use Rattle.near.proofs.Misses.{level-vf, level-fv}
-use Rattle.near.proofs.Things.{lies-whole}
-use Rattle.near.specs.Boxes.{Present}
+use Rattle.bounds.specs.declared.Thing.the-variants.{Facets}
+use Rattle.bounds.specs.Words.{dot, apart-on, beside, apart, whole, Present}
+use Rattle.bounds.proofs.Inside.{dot-in}
+use Rattle.bounds.proofs.Misses.{level-vf, level-fv}
+use Rattle.bounds.proofs.Things.{lies-whole}
 use Rattle.inclusions.proofs.Beside.{apart-turned, none-inside}
 
 module _ (v : Point) (s : Solid) (p : Passed s) where

@@ -12,8 +12,7 @@ use Rattle.solids.specs.Solids.{Solid, vertices}
 use Rattle.results.specs.declared.Operation.{Operation}
 use Rattle.results.specs.Inclusion.{inclusion, vA, vB}
 use Rattle.inclusions.specs.declared.Side.{Side}
-use Rattle.inclusions.specs.Included.{Included}
-use Rattle.inclusions.specs.Words.{weight, Weighed}
+use Rattle.inclusions.specs.Words.{Included, weight, Weighed}
 
 module _ (q : Side) (own : List Float) (other : Solid) where
   pub weighed-none : (l : List ℤ) → Weighed q own other l l 0

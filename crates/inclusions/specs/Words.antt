@@ -1,20 +1,31 @@
--- Words of contracts between functions of this crate; no public statement needs them. The vertices of one solid, as the other counts them.
+-- Words of contracts; no public statement needs them. The inclusions of vertices, in a list.
 use mathlib.Core.Path.{_≡_}
 use mathlib.Core.Bool.{Bool, true, false}
 use mathlib.Core.List.{List, []}
 use Prim.Native.Nat.{ℕ, _+_, _<_, _≤_}
-use lib.Ieee.{Float}
 use lib.IntN.{ℤ, pos, natAbs, _+ℤ_, _*ℤ_}
 use lib.ListN.{length, getD}
-use Rattle.sums.specs.Lists.{sumOf, upTo}
-use Rattle.solids.specs.Solids.{Solid, solid, vertex, facets, facet}
-use Rattle.solids.specs.Table.{facet-S, contained}
-use Rattle.near.specs.declared.Far.{Far}
-use Rattle.near.specs.declared.Far.the-variants.{Below, Above}
-use Rattle.near.specs.declared.Thing.the-variants.{Facets}
-use Rattle.near.specs.Boxes.{Present}
-use Rattle.near.specs.Things.{whole, Boxed, Among}
+use lib.Ieee.{Float}
+use Rattle.list_words.specs.Lists.{sumOf, upTo}
+use Rattle.solids.specs.Solids.{Solid, vertices, solid, vertex, facets, facet}
+use Rattle.solids.specs.Words.{facet-S, contained}
+use Rattle.results.specs.declared.Operation.{Operation}
+use Rattle.results.specs.Inclusion.{inclusion, vA, vB}
+use Rattle.bounds.specs.declared.Far.{Far}
+use Rattle.bounds.specs.declared.Far.the-variants.{Below, Above}
+use Rattle.bounds.specs.declared.Thing.the-variants.{Facets}
+use Rattle.bounds.specs.Words.{Present, whole, Boxed, Among}
 use Rattle.inclusions.specs.declared.Side.{Side}
+
+-- ---- the inclusion of each vertex, A's and then B's, in a list
+
+pub record Included (op : Operation) (a b : Solid) (inc : List ℤ) : Type 0 where
+  pub long : vertices a + vertices b ≤ length inc
+  pub of-a : (i : ℕ) → i < vertices a → getD inc i (pos 0) ≡ inclusion op a b (vA i)
+  pub of-b : (i : ℕ) → i < vertices b → getD inc (vertices a + i) (pos 0) ≡ inclusion op a b (vB i)
+  pub few : (i : ℕ) → natAbs (getD inc i (pos 0)) ≤ 257
+
+-- ---- the vertices of one solid, as the other counts them
 
 -- facets that count nothing for a vertex: of B those below it, of A those above
 abbrev pub idle : Bool → Far

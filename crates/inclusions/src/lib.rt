@@ -1,8 +1,8 @@
 // The inclusion of each vertex: how often the other solid contains it, weighed by the operation's numbers. A facet that is beside the vertex, by x or
 // y, or on the side of it that does not count, by z, counts nothing, and is left out; and a vertex outside the box round the other solid is in it 0 times.
-use near::Bounds;
-use near::Far;
-use near::Thing;
+use bounds::Bounds;
+use bounds::Far;
+use bounds::Thing;
 use points::Point;
 use results::Operation;
 ghost use mathlib.Core.Path.{_≡_};
@@ -10,17 +10,15 @@ ghost use mathlib.Core.List.{List};
 ghost use Prim.Native.Nat.{_+_, _*_, _/_, _<_, _≤_};
 ghost use lib.IntN.{ℤ, natAbs, _+ℤ_, _*ℤ_};
 ghost use lib.ListN.{length, getD, take, drop};
-ghost use Rattle.sums.specs.Lists.{sumOf, upTo};
+ghost use Rattle.list_words.specs.Lists.{sumOf, upTo};
 ghost use Rattle.solids.specs.Solids as So;
 ghost use Rattle.solids.specs.Admission as Ad;
 ghost use Rattle.solids.specs.declared.Verdict.the-variants.{Accepted};
-ghost use Rattle.solids.specs.Table as Ta;
+ghost use Rattle.solids.specs.Words as Sw;
 ghost use Rattle.edges.specs.Words as Ed;
-ghost use Rattle.near.specs.declared.Thing.the-variants.{Facets};
-ghost use Rattle.near.specs.Boxes as Bo;
-ghost use Rattle.near.specs.Things as Th;
-ghost use Rattle.inclusions.specs.Included as In;
-ghost use Rattle.inclusions.specs.Words as Wo;
+ghost use Rattle.bounds.specs.declared.Thing.the-variants.{Facets};
+ghost use Rattle.bounds.specs.Words as Bo;
+ghost use Rattle.inclusions.specs.Words as In;
 
 // The vertices of one solid, whose box is `own`, as the other counts them, which is B if `as_b` and has the box `other`: `alone` and `times` times the
 // count, from `at` on.
@@ -35,7 +33,7 @@ pub struct Side {
 
 // Facets that count nothing: of B those below, of A those above.
 fn idle(as_b: bool) -> Far
-    ensures { λ r. ⌜ r ≡ Wo.idle «as_b» ⌝ }
+    ensures { λ r. ⌜ r ≡ In.idle «as_b» ⌝ }
 {
     if as_b { Far::Below } else { Far::Above }
 }
@@ -50,13 +48,13 @@ fn s_near(
     boxes: &[f64],
     i: usize,
 ) -> i32
-    requires { ⌜ Ta.Named (now points) (now corners) × (Ad.admission (So.solid (now points) (now corners)) ≡ Accepted) × Bo.Present v ⌝ }
-    requires { ⌜ Th.Boxed (now boxes) Facets (So.solid (now points) (now corners)) × Th.Among (now columns) Facets (So.solid (now points) (now corners)) × (i < length (now columns)) ⌝ }
-    ensures { λ r. ⌜ r ≡ Ta.facet-S «as_b» v (So.facet (So.solid (now (points .entry)) (now (corners .entry))) (getD (now (columns .entry)) i 0)) ⌝ }
+    requires { ⌜ Sw.Named (now points) (now corners) × (Ad.admission (So.lent points corners) ≡ Accepted) × Bo.Present v ⌝ }
+    requires { ⌜ Bo.Boxed (now boxes) Facets (So.lent points corners) × Bo.Among (now columns) Facets (So.lent points corners) × (i < length (now columns)) ⌝ }
+    ensures { λ r. ⌜ r ≡ Sw.facet-S «as_b» v (So.facet (So.lent (points .entry) (corners .entry)) (getD (now (columns .entry)) i 0)) ⌝ }
     ensures small { λ r. ⌜ natAbs r ≤ 1 ⌝ }
 {
     let f = columns[i] as usize;
-    if box_lists::far_at(idle(as_b), near::dot(v), boxes, f) {
+    if box_lists::far_at(idle(as_b), bounds::dot(v), boxes, f) {
         return 0;
     }
     containment::facet_s(as_b, v, containment::facet(points, corners, f))
@@ -70,9 +68,9 @@ fn sum_near(
     columns: &[u32],
     boxes: &[f64],
 ) -> i32
-    requires { ⌜ Ta.Named (now points) (now corners) × (Ad.admission (So.solid (now points) (now corners)) ≡ Accepted) × Bo.Present v ⌝ }
-    requires { ⌜ Th.Boxed (now boxes) Facets (So.solid (now points) (now corners)) × Th.Among (now columns) Facets (So.solid (now points) (now corners)) × (length (now columns) ≤ 256) ⌝ }
-    ensures { λ r. ⌜ r ≡ sumOf (λ f. Ta.facet-S «as_b» v (So.facet (So.solid (now (points .entry)) (now (corners .entry))) f)) (now (columns .entry)) ⌝ }
+    requires { ⌜ Sw.Named (now points) (now corners) × (Ad.admission (So.lent points corners) ≡ Accepted) × Bo.Present v ⌝ }
+    requires { ⌜ Bo.Boxed (now boxes) Facets (So.lent points corners) × Bo.Among (now columns) Facets (So.lent points corners) × (length (now columns) ≤ 256) ⌝ }
+    ensures { λ r. ⌜ r ≡ sumOf (λ f. Sw.facet-S «as_b» v (So.facet (So.lent (points .entry) (corners .entry)) f)) (now (columns .entry)) ⌝ }
     ensures small { λ r. ⌜ natAbs r ≤ 256 ⌝ }
 {
     let mut sum: i32 = 0;
@@ -94,14 +92,14 @@ fn contained_near(
     columns: &[u32],
     boxes: &[f64],
 ) -> i32
-    requires { ⌜ Ta.Named (now points) (now corners) × (Ad.admission (So.solid (now points) (now corners)) ≡ Accepted) × Bo.Present v ⌝ }
-    requires { ⌜ Th.Boxed (now boxes) Facets (So.solid (now points) (now corners)) × Th.Among (now columns) Facets (So.solid (now points) (now corners)) × (length (now columns) ≤ 256) ⌝ }
-    requires { ⌜ whole ≡ Th.whole (So.solid (now points) (now corners)) ⌝ }
-    requires { ⌜ sumOf (λ f. Ta.facet-S «as_b» v (So.facet (So.solid (now points) (now corners)) f)) (now columns) ≡ sumOf (λ f. Ta.facet-S «as_b» v (So.facet (So.solid (now points) (now corners)) f)) (upTo (length (now corners) / 3)) ⌝ }
-    ensures { λ r. ⌜ r ≡ Ta.contained «as_b» v (So.solid (now (points .entry)) (now (corners .entry))) ⌝ }
+    requires { ⌜ Sw.Named (now points) (now corners) × (Ad.admission (So.lent points corners) ≡ Accepted) × Bo.Present v ⌝ }
+    requires { ⌜ Bo.Boxed (now boxes) Facets (So.lent points corners) × Bo.Among (now columns) Facets (So.lent points corners) × (length (now columns) ≤ 256) ⌝ }
+    requires { ⌜ whole ≡ Bo.whole (So.lent points corners) ⌝ }
+    requires { ⌜ sumOf (λ f. Sw.facet-S «as_b» v (So.facet (So.lent points corners) f)) (now columns) ≡ sumOf (λ f. Sw.facet-S «as_b» v (So.facet (So.lent points corners) f)) (upTo (length (now corners) / 3)) ⌝ }
+    ensures { λ r. ⌜ r ≡ Sw.contained «as_b» v (So.lent (points .entry) (corners .entry)) ⌝ }
     ensures small { λ r. ⌜ natAbs r ≤ 256 ⌝ }
 {
-    if near::apart(near::dot(v), whole) {
+    if bounds::apart(bounds::dot(v), whole) {
         return 0;
     }
     let sum = sum_near(as_b, v, points, corners, columns, boxes);
@@ -128,10 +126,10 @@ fn weigh(
     end: usize,
     inc: &mut [i16],
 )
-    requires { ⌜ Ta.Named (now points) (now corners) × (Ad.admission (So.solid (now points) (now corners)) ≡ Accepted) × Wo.All-present (now own) ⌝ }
-    requires { ⌜ Wo.Facing side (now own) (So.solid (now points) (now corners)) (now columns) (now boxes) begin end × (begin ≤ end) × (end ≤ length (now own) / 3) ⌝ }
-    requires { ⌜ Wo.Siding side (now own) (So.solid (now points) (now corners)) × (length (now own) ≤ 384) × (side .at + length (now own) / 3 ≤ length (now inc)) × (length (now inc) ≤ 256) ⌝ }
-    ensures { λ r. ⌜ ((old : List ℤ) → Wo.Weighed side (now (own .entry)) (So.solid (now (points .entry)) (now (corners .entry))) old (now (inc .entry)) begin → Wo.Weighed side (now (own .entry)) (So.solid (now (points .entry)) (now (corners .entry))) old (now (inc .exit)) end) ⌝ }
+    requires { ⌜ Sw.Named (now points) (now corners) × (Ad.admission (So.lent points corners) ≡ Accepted) × In.All-present (now own) ⌝ }
+    requires { ⌜ In.Facing side (now own) (So.lent points corners) (now columns) (now boxes) begin end × (begin ≤ end) × (end ≤ length (now own) / 3) ⌝ }
+    requires { ⌜ In.Siding side (now own) (So.lent points corners) × (length (now own) ≤ 384) × (side .at + length (now own) / 3 ≤ length (now inc)) × (length (now inc) ≤ 256) ⌝ }
+    ensures { λ r. ⌜ ((old : List ℤ) → In.Weighed side (now (own .entry)) (So.lent (points .entry) (corners .entry)) old (now (inc .entry)) begin → In.Weighed side (now (own .entry)) (So.lent (points .entry) (corners .entry)) old (now (inc .exit)) end) ⌝ }
     ensures same { λ r. ⌜ length (now (inc .exit)) ≡ length (now (inc .entry)) ⌝ }
 {
     let mut i = begin;
@@ -154,17 +152,17 @@ fn weigh_groups(
     boxes: &[f64],
     inc: &mut [i16],
 )
-    requires { ⌜ Ta.Named (now points) (now corners) × (Ad.admission (So.solid (now points) (now corners)) ≡ Accepted) × Wo.All-present (now own) ⌝ }
-    requires { ⌜ Wo.Facing side (now own) (So.solid (now points) (now corners)) (now columns) (now boxes) 0 (length (now own) / 3) ⌝ }
-    requires { ⌜ Wo.Siding side (now own) (So.solid (now points) (now corners)) × (length (now own) ≤ 384) × (side .at + length (now own) / 3 ≤ length (now inc)) × (length (now inc) ≤ 256) ⌝ }
-    ensures { λ r. ⌜ Wo.Weighed side (now (own .entry)) (So.solid (now (points .entry)) (now (corners .entry))) (now (inc .entry)) (now (inc .exit)) (length (now (own .entry)) / 3) ⌝ }
+    requires { ⌜ Sw.Named (now points) (now corners) × (Ad.admission (So.lent points corners) ≡ Accepted) × In.All-present (now own) ⌝ }
+    requires { ⌜ In.Facing side (now own) (So.lent points corners) (now columns) (now boxes) 0 (length (now own) / 3) ⌝ }
+    requires { ⌜ In.Siding side (now own) (So.lent points corners) × (length (now own) ≤ 384) × (side .at + length (now own) / 3 ≤ length (now inc)) × (length (now inc) ≤ 256) ⌝ }
+    ensures { λ r. ⌜ In.Weighed side (now (own .entry)) (So.lent (points .entry) (corners .entry)) (now (inc .entry)) (now (inc .exit)) (length (now (own .entry)) / 3) ⌝ }
     ensures same { λ r. ⌜ length (now (inc .exit)) ≡ length (now (inc .entry)) ⌝ }
 {
     let mut few = [0u32; 384];
     let mut i = 0;
     while i < own.len() / 3 {
-        let end = near::group_end(i, own.len() / 3);
-        let all = near::hull(own, i, end);
+        let end = bounds::group_end(i, own.len() / 3);
+        let all = bounds::hull(own, i, end);
         let n = box_lists::narrow(idle(side.as_b), all, boxes, columns, &mut few);
         weigh(side, own, points, corners, &few[..n], boxes, i, end, inc);
         i = end;
@@ -180,9 +178,9 @@ fn include_side(
     ends: &[u32],
     inc: &mut [i16],
 )
-    requires { ⌜ Ed.Ready (now points) (now corners) (now ends) × (Ad.admission (So.solid (now points) (now corners)) ≡ Accepted) × Wo.All-present (now own) ⌝ }
-    requires { ⌜ Wo.Siding side (now own) (So.solid (now points) (now corners)) × (length (now own) ≤ 384) × (side .at + length (now own) / 3 ≤ length (now inc)) × (length (now inc) ≤ 256) ⌝ }
-    ensures { λ r. ⌜ Wo.Weighed side (now (own .entry)) (So.solid (now (points .entry)) (now (corners .entry))) (now (inc .entry)) (now (inc .exit)) (length (now (own .entry)) / 3) ⌝ }
+    requires { ⌜ Ed.Ready (now points) (now corners) (now ends) × (Ad.admission (So.lent points corners) ≡ Accepted) × In.All-present (now own) ⌝ }
+    requires { ⌜ In.Siding side (now own) (So.lent points corners) × (length (now own) ≤ 384) × (side .at + length (now own) / 3 ≤ length (now inc)) × (length (now inc) ≤ 256) ⌝ }
+    ensures { λ r. ⌜ In.Weighed side (now (own .entry)) (So.lent (points .entry) (corners .entry)) (now (inc .entry)) (now (inc .exit)) (length (now (own .entry)) / 3) ⌝ }
     ensures same { λ r. ⌜ length (now (inc .exit)) ≡ length (now (inc .entry)) ⌝ }
 {
     let mut columns = [0u32; 384];
@@ -212,12 +210,12 @@ pub fn include(
     inc: &mut [i16],
 )
     requires { ⌜ Ed.Ready (now ap) (now ac) (take 768 (now ends)) × Ed.Ready (now bp) (now bc) (drop 768 (now ends)) × (length (now ends) ≡ 1536) ⌝ }
-    requires { ⌜ (Ad.admission (So.solid (now ap) (now ac)) ≡ Accepted) × (Ad.admission (So.solid (now bp) (now bc)) ≡ Accepted) ⌝ }
-    requires { ⌜ length (now inc) ≡ So.vertices (So.solid (now ap) (now ac)) + So.vertices (So.solid (now bp) (now bc)) ⌝ }
-    ensures { λ r. ⌜ In.Included op (So.solid (now (ap .entry)) (now (ac .entry))) (So.solid (now (bp .entry)) (now (bc .entry))) (now (inc .exit)) ⌝ }
+    requires { ⌜ (Ad.admission (So.lent ap ac) ≡ Accepted) × (Ad.admission (So.lent bp bc) ≡ Accepted) ⌝ }
+    requires { ⌜ length (now inc) ≡ So.vertices (So.lent ap ac) + So.vertices (So.lent bp bc) ⌝ }
+    ensures { λ r. ⌜ In.Included op (So.lent (ap .entry) (ac .entry)) (So.lent (bp .entry) (bc .entry)) (now (inc .exit)) ⌝ }
 {
-    let own = near::hull(ap, 0, ap.len() / 3);
-    let other = near::hull(bp, 0, bp.len() / 3);
+    let own = bounds::hull(ap, 0, ap.len() / 3);
+    let other = bounds::hull(bp, 0, bp.len() / 3);
     let n = op.numbers();
     let of_a = Side {
         as_b: true,

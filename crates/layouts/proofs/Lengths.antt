@@ -3,12 +3,11 @@ use mathlib.Core.Path.{_≡_}
 use Prim.Native.Nat.{_+_, _*_}
 use native.Mathlib.Omega.{arith}
 use lib.ListN.{length, length-append}
-use Rattle.sums.proofs.Threes.{length-threes}
+use Rattle.list_words.proofs.Threes.{length-threes}
 use Rattle.solids.specs.Solids.{Solid, facets, half-edges, edge-of}
 use Rattle.solids.proofs.Admitted.{Passed}
 use Rattle.solids.proofs.Room.{length-half-edges, edges-room}
-use Rattle.layouts.specs.Many.{sizes, Sized}
-use Rattle.layouts.specs.Halves.{half-first, half-list, halves}
+use Rattle.layouts.specs.Words.{sizes, Sized, half-first, half-list, halves}
 
 pub length-half-list : (s : Solid) → length (half-list s) ≡ 9 * facets s
 unfolding half-list

@@ -8,8 +8,8 @@ use lib.IntN.{ℤ, pos, negsuc, natAbs}
 use mir.Syntax.{w32}
 use mir.Val.{SFits, ofZ, toZ}
 use mir.Facts.{toZ-ofZ}
-use Rattle.sums.specs.Lists.{nonzero}
-use Rattle.layouts.specs.Packed.{code, packed, column, inclusion}
+use Rattle.list_words.specs.Lists.{nonzero}
+use Rattle.layouts.specs.Words.{code, packed, column, inclusion}
 
 code-small : (n : ℤ) → code n ≤ 3
 code-small (negsuc (suc n)) = omega arith

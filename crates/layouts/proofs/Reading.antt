@@ -7,17 +7,17 @@ use native.Mathlib.Nat.{add-zero}
 use native.Mathlib.Omega.{arith}
 use lib.Dec.{eqb, eqb→eq, eqb-refl}
 use lib.ListN.{length, getD, List·getD-append}
-use Rattle.sums.specs.Lists.{upTo, one-if}
-use Rattle.sums.proofs.Sums.{all-at}
-use Rattle.sums.proofs.UpTo.{length-upTo}
-use Rattle.sums.proofs.Closed.{same-half-sound, same-half-self}
-use Rattle.sums.proofs.Threes.{getD-threes}
+use Rattle.list_words.specs.Lists.{upTo, one-if}
+use Rattle.list_words.proofs.Sums.{all-at}
+use Rattle.list_words.proofs.UpTo.{length-upTo}
+use Rattle.list_words.proofs.Closed.{same-half-sound, same-half-self}
+use Rattle.list_words.proofs.Threes.{getD-threes}
 use Rattle.solids.specs.Solids.{Solid, Half, vertices, facets, corner, same-half, facet-half-edges, half-edges, edges, along, edge-of}
 use Rattle.solids.proofs.Admitted.{Passed, Between}
 use Rattle.solids.proofs.Shut.{Is-edge, all-edges, mem-edges, between}
-use Rattle.layouts.specs.Halves.{edge-at, against, edge-number, half-first, half-numbers, half-list, halves}
+use Rattle.layouts.specs.Words.{edge-at, against, edge-number, half-first, half-numbers, half-list, halves}
 use Rattle.layouts.proofs.Lengths.{length-half-list}
-use Rattle.sums.proofs.Places.{mem-getD, getD-behind, getD-upTo, place-at}
+use Rattle.list_words.proofs.Places.{mem-getD, getD-behind, getD-upTo, place-at}
 use Rattle.solids.proofs.Room.{length-half-edges}
 
 abbrev pub no-half : Half

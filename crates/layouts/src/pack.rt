@@ -3,12 +3,12 @@ ghost use mathlib.Core.Path.{_≡_};
 ghost use mathlib.Core.Bool.{true};
 ghost use Prim.Native.Nat.{_<_, _≤_};
 ghost use lib.IntN.{natAbs};
-ghost use Rattle.sums.specs.Lists.{nonzero};
-ghost use Rattle.layouts.specs.Packed as P;
+ghost use Rattle.list_words.specs.Lists.{nonzero};
+ghost use Rattle.layouts.specs.Words as La;
 
 pub fn packed(column: usize, n: i32) -> u32
     requires { ⌜ (column < 65536) × (natAbs n ≤ 2) × (nonzero n ≡ true) ⌝ }
-    ensures { λ r. ⌜ r ≡ P.packed (column, n) ⌝ }
+    ensures { λ r. ⌜ r ≡ La.packed (column, n) ⌝ }
 {
     let there = 4 * column as u32;
     if n == 2 {
@@ -24,13 +24,13 @@ pub fn packed(column: usize, n: i32) -> u32
 }
 
 pub fn column(x: u32) -> usize
-    ensures { λ r. ⌜ r ≡ P.column x ⌝ }
+    ensures { λ r. ⌜ r ≡ La.column x ⌝ }
 {
     (x / 4) as usize
 }
 
 pub fn inclusion(x: u32) -> i32
-    ensures { λ r. ⌜ r ≡ P.inclusion x ⌝ }
+    ensures { λ r. ⌜ r ≡ La.inclusion x ⌝ }
 {
     let k = x % 4;
     if k == 3 {

@@ -14,7 +14,7 @@ use lib.Dec.{eqb}
 use lib.ListN.{length, getD, set}
 use lib.Pow.{pow-lt, pow-add, shl-shr, shr-shr, shr-le}
 use lib.Seq.{getD-set-same, getD-set-other}
-use Rattle.marks.specs.Marks.{marked, Next}
+use Rattle.marks.specs.Words.{marked, Next}
 
 -- digit i of a word
 abbrev digit : ℕ → ℕ → ℕ

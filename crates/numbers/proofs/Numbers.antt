@@ -10,8 +10,8 @@ use lib.ListN.{length, getD, set, take, drop, length-drop}
 use lib.Seq.{sets, drop-cons, take-at, drop-at, take-append-le, drop-append-le, length-take-le}
 use lib.Ieee.{Float, nan, inf, fin, binary64, ofBits, toBits, isNan, div}
 use lib.Ieee.Bits.{ofBits-toBits, toBits-lt, ofBits-fits, toBits-ofBits}
-use Rattle.sums.proofs.Sums.{All, all-take, all-drop}
-use Rattle.sums.proofs.Tests.{never}
+use Rattle.list_words.proofs.Sums.{All, all-take, all-drop}
+use Rattle.list_words.proofs.Tests.{never}
 use Rattle.numbers.specs.Numbers.{Byte, F64, number, number-at, float-at, bytes, float-bytes}
 
 -- ---- whole numbers

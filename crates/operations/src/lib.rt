@@ -1,5 +1,5 @@
-// Union, intersection and difference of two solids: document 01's operation. What is made of two admitted ones is in crates/making.
-use making::Tried;
+// Union, intersection and difference of two solids: document 01's operation. What is made of two admitted ones is in crates/result_lists.
+use result_lists::Tried;
 use results::Chosen;
 use results::Made;
 use results::Operation;
@@ -10,7 +10,7 @@ ghost use Rattle.solids.specs.Solids as So;
 ghost use Rattle.solids.specs.Admission as Ad;
 ghost use Rattle.solids.specs.declared.Verdict.the-variants.{Accepted};
 ghost use Rattle.results.specs.Operation as Op;
-ghost use Rattle.making.specs.Attempted as At;
+ghost use Rattle.result_lists.specs.Words as Rl;
 
 // As many crossings as two admitted solids can have.
 const ROOM: usize = 196608;
@@ -27,10 +27,10 @@ fn with_room(
     corners: &mut [u32],
     origins: &mut [u32],
 ) -> Tried
-    requires { ⌜ (Ad.admission (So.solid (now ap) (now ac)) ≡ Accepted) × (Ad.admission (So.solid (now bp) (now bc)) ≡ Accepted) ⌝ }
-    ensures { λ r. ⌜ At.Attempted op (So.solid (now (ap .entry)) (now (ac .entry))) (So.solid (now (bp .entry)) (now (bc .entry))) 196608 (Op.lists (now (points .entry)) (now (corners .entry)) (now (origins .entry))) r (Op.lists (now (points .exit)) (now (corners .exit)) (now (origins .exit))) ⌝ }
+    requires { ⌜ (Ad.admission (So.lent ap ac) ≡ Accepted) × (Ad.admission (So.lent bp bc) ≡ Accepted) ⌝ }
+    ensures { λ r. ⌜ Rl.Attempted op (So.lent (ap .entry) (ac .entry)) (So.lent (bp .entry) (bc .entry)) 196608 (Op.lists (now (points .entry)) (now (corners .entry)) (now (origins .entry))) r (Op.lists (now (points .exit)) (now (corners .exit)) (now (origins .exit))) ⌝ }
 {
-    making::attempt(op, ap, ac, bp, bc, crossed, points, corners, origins)
+    result_lists::attempt(op, ap, ac, bp, bc, crossed, points, corners, origins)
 }
 
 // It has a list for all crossings.
@@ -44,8 +44,8 @@ fn in_large(
     corners: &mut [u32],
     origins: &mut [u32],
 ) -> Made
-    requires { ⌜ (Ad.admission (So.solid (now ap) (now ac)) ≡ Accepted) × (Ad.admission (So.solid (now bp) (now bc)) ≡ Accepted) ⌝ }
-    ensures { λ r. ⌜ At.Operated op (So.solid (now (ap .entry)) (now (ac .entry))) (So.solid (now (bp .entry)) (now (bc .entry))) (Op.lists (now (points .entry)) (now (corners .entry)) (now (origins .entry))) r (Op.lists (now (points .exit)) (now (corners .exit)) (now (origins .exit))) ⌝ }
+    requires { ⌜ (Ad.admission (So.lent ap ac) ≡ Accepted) × (Ad.admission (So.lent bp bc) ≡ Accepted) ⌝ }
+    ensures { λ r. ⌜ Rl.Operated op (So.lent (ap .entry) (ac .entry)) (So.lent (bp .entry) (bc .entry)) (Op.lists (now (points .entry)) (now (corners .entry)) (now (origins .entry))) r (Op.lists (now (points .exit)) (now (corners .exit)) (now (origins .exit))) ⌝ }
 {
     let mut crossed = [0u32; ROOM];
     let tried = with_room(op, ap, ac, bp, bc, &mut crossed, points, corners, origins);
@@ -68,11 +68,11 @@ fn admitted(
     corners: &mut [u32],
     origins: &mut [u32],
 ) -> Made
-    requires { ⌜ (Ad.admission (So.solid (now ap) (now ac)) ≡ Accepted) × (Ad.admission (So.solid (now bp) (now bc)) ≡ Accepted) ⌝ }
-    ensures { λ r. ⌜ At.Operated op (So.solid (now (ap .entry)) (now (ac .entry))) (So.solid (now (bp .entry)) (now (bc .entry))) (Op.lists (now (points .entry)) (now (corners .entry)) (now (origins .entry))) r (Op.lists (now (points .exit)) (now (corners .exit)) (now (origins .exit))) ⌝ }
+    requires { ⌜ (Ad.admission (So.lent ap ac) ≡ Accepted) × (Ad.admission (So.lent bp bc) ≡ Accepted) ⌝ }
+    ensures { λ r. ⌜ Rl.Operated op (So.lent (ap .entry) (ac .entry)) (So.lent (bp .entry) (bc .entry)) (Op.lists (now (points .entry)) (now (corners .entry)) (now (origins .entry))) r (Op.lists (now (points .exit)) (now (corners .exit)) (now (origins .exit))) ⌝ }
 {
     let mut crossed = [0u32; 2048];
-    let tried = making::attempt(op, ap, ac, bp, bc, &mut crossed, points, corners, origins);
+    let tried = result_lists::attempt(op, ap, ac, bp, bc, &mut crossed, points, corners, origins);
     if let Tried::Done(made) = tried {
         return made;
     }
@@ -90,15 +90,15 @@ fn checked(
     corners: &mut [u32],
     origins: &mut [u32],
 ) -> Made
-    ensures { λ r. ⌜ At.Operated op (So.solid (now (ap .entry)) (now (ac .entry))) (So.solid (now (bp .entry)) (now (bc .entry))) (Op.lists (now (points .entry)) (now (corners .entry)) (now (origins .entry))) r (Op.lists (now (points .exit)) (now (corners .exit)) (now (origins .exit))) ⌝ }
+    ensures { λ r. ⌜ Rl.Operated op (So.lent (ap .entry) (ac .entry)) (So.lent (bp .entry) (bc .entry)) (Op.lists (now (points .entry)) (now (corners .entry)) (now (origins .entry))) r (Op.lists (now (points .exit)) (now (corners .exit)) (now (origins .exit))) ⌝ }
 {
-    let of_a = checks::admission::admit(ap, ac);
+    let of_a = admission::admit(ap, ac);
     if let Verdict::Refused(n) = of_a {
-        return making::refused(n);
+        return result_lists::refused(n);
     }
-    let of_b = checks::admission::admit(bp, bc);
+    let of_b = admission::admit(bp, bc);
     if let Verdict::Refused(m) = of_b {
-        return making::refused(m);
+        return result_lists::refused(m);
     }
     admitted(op, ap, ac, bp, bc, points, corners, origins)
 }
@@ -114,10 +114,10 @@ pub fn operate(
     corners: &mut [u32],
     origins: &mut [u32],
 ) -> Made
-    ensures { λ r. ⌜ Op.Operate code (So.solid (now (ap .entry)) (now (ac .entry))) (So.solid (now (bp .entry)) (now (bc .entry))) (Op.lists (now (points .entry)) (now (corners .entry)) (now (origins .entry))) (r, Op.lists (now (points .exit)) (now (corners .exit)) (now (origins .exit))) ⌝ }
+    ensures { λ r. ⌜ Op.Operate code (So.lent (ap .entry) (ac .entry)) (So.lent (bp .entry) (bc .entry)) (Op.lists (now (points .entry)) (now (corners .entry)) (now (origins .entry))) (r, Op.lists (now (points .exit)) (now (corners .exit)) (now (origins .exit))) ⌝ }
 {
     match Operation::of_code(code) {
         Chosen::Known(op) => checked(op, ap, ac, bp, bc, points, corners, origins),
-        Chosen::Unknown => making::refused(Answer { number: 7 }),
+        Chosen::Unknown => result_lists::refused(Answer { number: 7 }),
     }
 }

@@ -35,7 +35,7 @@ pub fn copied<'a>(ac: &'a [u32], bc: &'a [u32], origin: usize, part: &mut [u32])
             used: 0,
         };
     }
-    lists::copy_corners(found, part);
+    list_stores::copy_corners(found, part);
     Written {
         answer: Answer { number: 0 },
         used: found.len(),

@@ -4,7 +4,7 @@ use mathlib.Core.Path.{_≡_, refl}
 use mathlib.Core.Logic.{inl, inr}
 use mathlib.Core.Bool.{Bool, true, false, _&&_, cond}
 use lib.Ieee.{Float, le}
-use Rattle.sums.proofs.Tests.{and-true, or-true}
+use Rattle.list_words.proofs.Tests.{and-true, or-true}
 use Rattle.points.specs.declared.Point.{Point}
 use Rattle.points.specs.declared.PointPair.{PointPair}
 use Rattle.points.specs.declared.Axis.{Axis}

@@ -10,7 +10,7 @@ use lib.Dec.{T, eqb, ltb→lt, lt→ltb, eqb→eq}
 use lib.IntN.{ℤ}
 use lib.Ieee.{Float, nan, inf, fin, up, down, below, level, le, lt, isNan}
 use lib.Ieee.Fits.{down-pos, and-i, and-l, and-r, eq→eqb}
-use Rattle.sums.proofs.Tests.{T-of, of-T, never, not-true}
+use Rattle.list_words.proofs.Tests.{T-of, of-T, never, not-true}
 
 -- ---- finite values: ±a is over s a - under s a, so that an order of two fractions is one inequality of naturals
 abbrev over : Bool → ℕ → ℕ

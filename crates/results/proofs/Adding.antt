@@ -4,14 +4,14 @@ use Prim.Native.Nat.{ℕ}
 use native.Mathlib.Omega.{arith}
 use lib.Dec.{eqb}
 use lib.IntN.{ℤ, negℤ, _+ℤ_, _-ℤ_, _*ℤ_, +ℤ-idr}
-use Rattle.sums.specs.Lists.{upTo, sumOf}
-use Rattle.sums.proofs.Integers.{split, mk-eq, lin, mul-sub}
-use Rattle.sums.proofs.Sums.{sum-ext, sum-sub, sum-mul}
-use Rattle.sums.proofs.Closed.{Closed, Simple}
-use Rattle.sums.proofs.Signed.{around-mul}
+use Rattle.list_words.specs.Lists.{upTo, sumOf}
+use Rattle.list_words.proofs.Integers.{split, mk-eq, lin, mul-sub}
+use Rattle.list_words.proofs.Sums.{sum-ext, sum-sub, sum-mul}
+use Rattle.list_words.proofs.Closed.{Closed, Simple}
+use Rattle.list_words.proofs.Signed.{around-mul}
 use Rattle.points.specs.declared.Axis.the-variants.{Z}
 use Rattle.crossings.specs.Crossings.{count, S, fv, ee}
-use Rattle.crossings.proofs.Table.{count-ef, count-fe}
+use Rattle.crossings.proofs.Formulas.{count-ef, count-fe}
 use Rattle.crossings.proofs.Facets.{two-facets}
 use Rattle.solids.specs.Solids.{Solid, Half, vertex, corner, facets, facet, edge, half-edges, along, facet-half-edges}
 use Rattle.solids.specs.Containment.{in-A, in-B}

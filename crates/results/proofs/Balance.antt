@@ -7,12 +7,12 @@ use mathlib.Core.List.{List, map, flatMap}
 use Prim.Native.Nat.{ℕ}
 use native.Mathlib.Omega.{arith}
 use lib.IntN.{ℤ, pos, negℤ, _+ℤ_, _-ℤ_, _*ℤ_, +ℤ-comm, +ℤ-idl, +ℤ-invr}
-use Rattle.sums.specs.Lists.{upTo, sumOf, turned}
-use Rattle.sums.proofs.Integers.{split, mk-eq, lin, neg-mul, neg-sub}
-use Rattle.sums.proofs.Sums.{sum-append, sum-add, sum-sub, sum-neg, sum-ext, sum-swap, sum-map, sum-flatMap}
-use Rattle.sums.proofs.Closed.{Anti}
-use Rattle.sums.proofs.Signed.{sgn, loop, around-ext, around-add, around-diff, around-sum, sum-half, sum-turned}
-use Rattle.sums.proofs.Joining.{join-sum}
+use Rattle.list_words.specs.Lists.{upTo, sumOf, turned}
+use Rattle.list_words.proofs.Integers.{split, mk-eq, lin, neg-mul, neg-sub}
+use Rattle.list_words.proofs.Sums.{sum-append, sum-add, sum-sub, sum-neg, sum-ext, sum-swap, sum-map, sum-flatMap}
+use Rattle.list_words.proofs.Closed.{Anti}
+use Rattle.list_words.proofs.Signed.{sgn, loop, around-ext, around-add, around-diff, around-sum, sum-half, sum-turned}
+use Rattle.list_words.proofs.Joining.{join-sum}
 use Rattle.solids.specs.Solids.{Solid, Half, corner, facets, facet-half-edges, along, edge-of, signed}
 use Rattle.solids.proofs.Around.{around, around-closed}
 use Rattle.results.specs.declared.End.{End}

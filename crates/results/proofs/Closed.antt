@@ -4,10 +4,10 @@ use mathlib.Core.List.{List, flatMap}
 use Prim.Native.Nat.{ℕ, _+_}
 use lib.Dec.{eqb}
 use lib.IntN.{ℤ, _+ℤ_}
-use Rattle.sums.specs.Lists.{upTo, sumOf}
-use Rattle.sums.proofs.Sums.{sum-append, sum-ext, sum-flatMap}
-use Rattle.sums.proofs.Closed.{Anti, Closed, closed-of-sums}
-use Rattle.sums.proofs.Signed.{Round}
+use Rattle.list_words.specs.Lists.{upTo, sumOf}
+use Rattle.list_words.proofs.Sums.{sum-append, sum-ext, sum-flatMap}
+use Rattle.list_words.proofs.Closed.{Anti, Closed, closed-of-sums}
+use Rattle.list_words.proofs.Signed.{Round}
 use Rattle.solids.specs.Solids.{Solid, Half, facets}
 use Rattle.results.specs.Inclusion.{Key}
 use Rattle.results.specs.Triangles.{fan, boundary-A, boundary-B, triangles}

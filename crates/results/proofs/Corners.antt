@@ -8,11 +8,11 @@ use Prim.Native.Nat.{ℕ, zero, suc, _+_, _<_}
 use native.Mathlib.Omega.{arith}
 use lib.ListN.{length, replicate}
 use lib.IntN.{ℤ, pos, negsuc, negℤ}
-use Rattle.sums.specs.Lists.{upTo, turned, nonzero, above, below}
-use Rattle.sums.proofs.Sums.{All, all-at, all-of, all-mono, all-++, all-map-of, all-flatMap, flat-map}
-use Rattle.sums.proofs.UpTo.{Distinct, distinct-++, distinct-map, apart-maps, distinct-upTo, all-upTo}
-use Rattle.sums.proofs.Joining as Joining
-use Rattle.sums.proofs.Numbering.{number-inj, number-lt, join-keys}
+use Rattle.list_words.specs.Lists.{upTo, turned, nonzero, above, below}
+use Rattle.list_words.proofs.Sums.{All, all-at, all-of, all-mono, all-++, all-map-of, all-flatMap, flat-map}
+use Rattle.list_words.proofs.UpTo.{Distinct, distinct-++, distinct-map, apart-maps, distinct-upTo, all-upTo}
+use Rattle.list_words.proofs.Joining as Joining
+use Rattle.list_words.proofs.Numbering.{number-inj, number-lt, join-keys}
 use Rattle.solids.specs.Solids.{Solid, Half, facets, facet-half-edges, edges, along, edge-of, signed}
 use Rattle.solids.proofs.Admitted.{Proper, Passed, Between}
 use Rattle.solids.proofs.Shut.{Is-edge, all-edges, facet-edges, facet-edges-distinct}

@@ -6,15 +6,15 @@ use mathlib.Core.List.{List, [], _∷_, flatMap}
 use Prim.Native.Nat.{ℕ}
 use lib.Dec.{eqb, eqb-refl, eqb→eq}
 use lib.IntN.{ℤ}
-use Rattle.sums.specs.Lists.{keep, sumOf}
-use Rattle.sums.proofs.Sums.{All, all-mono, all-both, all-map-of, sum-map}
-use Rattle.sums.proofs.Tests.{all-keep}
-use Rattle.sums.proofs.Fans.{fan-apart, least-lt, fan-sum}
+use Rattle.list_words.specs.Lists.{keep, sumOf}
+use Rattle.list_words.proofs.Sums.{All, all-mono, all-both, all-map-of, sum-map}
+use Rattle.list_words.proofs.Tests.{all-keep}
+use Rattle.list_words.proofs.Fans.{fan-apart, least-lt, fan-sum}
 use Rattle.solids.specs.Solids.{Half, half-edges-of}
 use Rattle.solids.proofs.Admitted.{Proper, Between}
 use Rattle.results.specs.Triangles.{Triangle, smallest, at-end, fan}
-use Rattle.sums.proofs.Closed.{Anti}
-use Rattle.sums.proofs.Signed.{Round}
+use Rattle.list_words.proofs.Closed.{Anti}
+use Rattle.list_words.proofs.Signed.{Round}
 
 -- ---- three different corners, where the boundary steps between different numbers below n
 pub fan-proper : (n o : ℕ) (hs : List Half) → All (Between n) hs → All (λ (t : Triangle). Proper n (t .a) (t .p) (t .q)) (fan o hs)

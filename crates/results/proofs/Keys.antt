@@ -5,10 +5,10 @@ use mathlib.Core.List.{List, [], _∷_, _++_, map, flatMap, List·Memᴰ, Memᴰ
 use Prim.Native.Nat.{ℕ, zero, suc, _<_}
 use lib.ListN.{getD}
 use lib.Dec.{T, eqb, eqb→eq, eqb-refl}
-use Rattle.sums.specs.Lists.{upTo, same}
-use Rattle.sums.proofs.Sums.{mem-flatMap}
-use Rattle.sums.proofs.Tests.{T-of, of-T, and-true, true-and}
-use Rattle.sums.proofs.UpTo.{mem-upTo}
+use Rattle.list_words.specs.Lists.{upTo, same}
+use Rattle.list_words.proofs.Sums.{mem-flatMap}
+use Rattle.list_words.proofs.Tests.{T-of, of-T, and-true, true-and}
+use Rattle.list_words.proofs.UpTo.{mem-upTo}
 use Rattle.solids.specs.Solids.{Solid, Half, vertices, facets, edges}
 use Rattle.results.specs.Inclusion.{Key, vA, eAfB, fAeB, vB}
 use Rattle.results.specs.Vertices.{keys, key-numbers, same-key}

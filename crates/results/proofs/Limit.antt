@@ -3,9 +3,9 @@ use mathlib.Core.Path.{_≡_, sym, ap, _∙_}
 use mathlib.Core.Logic.{_≢_}
 use mathlib.Core.Bool.{true, false≢true}
 use lib.IntN.{ℤ, pos, _*ℤ_, *ℤ-zero}
-use Rattle.sums.specs.Lists.{nonzero}
-use Rattle.sums.proofs.Sums.{All, all-mono, all-flatMap, all-of}
-use Rattle.sums.proofs.Tests.{all-keep}
+use Rattle.list_words.specs.Lists.{nonzero}
+use Rattle.list_words.proofs.Sums.{All, all-mono, all-flatMap, all-of}
+use Rattle.list_words.proofs.Tests.{all-keep}
 use Rattle.points.specs.Points.{coordinates}
 use Rattle.crossings.specs.declared.Crossing.{Crossing}
 use Rattle.crossings.specs.Crossings.{count, points}

@@ -4,7 +4,7 @@ use mathlib.Core.Bool.{cond}
 use mathlib.Core.List.{List, _∷_, _++_, map, flatMap, zip}
 use lib.ListN.{replicate}
 use lib.IntN.{ℤ, negℤ}
-use Rattle.sums.specs.Lists.{upTo, above, below, turned}
+use Rattle.list_words.specs.Lists.{upTo, above, below, turned}
 use Rattle.solids.specs.Solids.{Solid, Half, facets, facet-half-edges, along, edge-of, signed}
 use Rattle.results.specs.declared.End.{End}
 use Rattle.results.specs.Inclusion.{Key, vA, eAfB, fAeB, vB}

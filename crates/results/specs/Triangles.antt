@@ -5,7 +5,7 @@ use mathlib.Core.List.{List, [], _∷_, _++_, map, flatMap}
 use lib.Dec.{eqb}
 use lib.IntN.{ℤ}
 use lib.Ieee.{Float}
-use Rattle.sums.specs.Lists.{upTo, keep, least, turned}
+use Rattle.list_words.specs.Lists.{upTo, keep, least, turned}
 use Rattle.points.specs.Points.{coordinates}
 use Rattle.solids.specs.Solids.{Solid, Half, facets, facet-half-edges, edge-of}
 use Rattle.results.specs.declared.Operation.{Operation}

@@ -4,7 +4,7 @@ use mathlib.Core.Bool.{Bool}
 use mathlib.Core.List.{List, [], _∷_, _++_, map, flatMap}
 use lib.ListN.{length}
 use lib.IntN.{ℤ}
-use Rattle.sums.specs.Lists.{upTo, keep, before, nonzero, same}
+use Rattle.list_words.specs.Lists.{upTo, keep, before, nonzero, same}
 use Rattle.solids.specs.Solids.{Solid, vertices, facets, edges}
 use Rattle.results.specs.Inclusion.{Key, vA, eAfB, fAeB, vB}
 

@@ -5,8 +5,8 @@ use mathlib.Core.List.{List, [], _∷_, map}
 use Prim.Native.Nat.{ℕ}
 use native.Mathlib.Omega.{arith}
 use lib.IntN.{ℤ, pos, negsuc, one, negℤ, _+ℤ_, _*ℤ_, *ℤ-comm, *ℤ-one, negℤ-+ℤ}
-use Rattle.sums.specs.Lists.{upTo}
-use Rattle.sums.proofs.Integers.{split, mk-eq, lin, neg-mul}
+use Rattle.list_words.specs.Lists.{upTo}
+use Rattle.list_words.proofs.Integers.{split, mk-eq, lin, neg-mul}
 use Rattle.crossings.specs.Crossings.{count}
 use Rattle.solids.specs.Solids.{Solid, Half, vertex, facets}
 use Rattle.solids.specs.Containment.{in-B}

@@ -4,8 +4,8 @@ use mathlib.Core.Logic.{_≢_}
 use mathlib.Core.Bool.{Bool, true, false, cond, false≢true}
 use mathlib.Core.List.{List}
 use lib.IntN.{pos}
-use Rattle.sums.specs.Lists.{sumOf, nonzero}
-use Rattle.sums.proofs.Sums.{All}
+use Rattle.list_words.specs.Lists.{sumOf, nonzero}
+use Rattle.list_words.proofs.Sums.{All}
 use Rattle.points.specs.declared.PointPair.{PointPair}
 use Rattle.points.specs.declared.Axis.{Axis}
 use Rattle.points.specs.declared.Axis.the-variants.{X, Y, Z}

@@ -6,8 +6,8 @@ use Prim.Native.Nat.{ℕ, _≤_, _<_, _%_}
 use lib.ListN.{length}
 use lib.Ieee.{Float, isNan}
 use mathlib.Core.Bool.{false}
-use Rattle.sums.proofs.Sums.{All, all-at, all-mono}
-use Rattle.sums.proofs.Threes.{third-threes, rest-threes}
+use Rattle.list_words.proofs.Sums.{All, all-at, all-mono}
+use Rattle.list_words.proofs.Threes.{third-threes, rest-threes}
 use Rattle.solids.specs.declared.Verdict.the-variants.{Accepted}
 use Rattle.solids.specs.Solids.{Solid, vertices, facets, corner, half-edges, number-of}
 use Rattle.solids.specs.Admission.{beyond, admission}

@@ -6,7 +6,7 @@ use mathlib.Core.List.{List, [], _∷_, List·Memᴰ}
 use Prim.Native.Nat.{ℕ, _<_, _≤_}
 use lib.IntN.{ℤ, pos, _+ℤ_}
 use lib.Ieee.{Float, isNan}
-use Rattle.sums.specs.Lists.{turned}
+use Rattle.list_words.specs.Lists.{turned}
 use Rattle.solids.specs.declared.Verdict.the-variants.{Accepted}
 use Rattle.solids.specs.Solids.{Solid, Half, vertices, facets, corner, half-edges, number-of, edges}
 use Rattle.solids.specs.Admission.{beyond, admission}

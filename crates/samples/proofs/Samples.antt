@@ -1,6 +1,6 @@
 -- P1 to P13 hold: by computation, row by row, so that a wrong row is refused at its own place.
 use mathlib.Core.Path.{refl}
-use Rattle.samples.specs.Table.{table, Holds}
+use Rattle.samples.specs.SampleTable.{table, Holds}
 use Rattle.samples.proofs.Computing.{computing}
 
 pub samples : Holds table

@@ -7,11 +7,11 @@ use lib.ListN.{length}
 use lib.Dec.{leb, ltb, eqb, eqb→eq, eqb-refl}
 use lib.Ieee.{Float, inf, lt, neg, isNan}
 use borrow.Author.Tests.{ltb-false, leb-false, eqb-true, eqb-false, le-ltb, lt-leb, eq-eqb, ne-eqb}
-use Rattle.sums.specs.Lists.{upTo, any, turned}
-use Rattle.sums.proofs.Sums.{All, all-at, all-mono, all-flatMap}
-use Rattle.sums.proofs.Tests.{not-false, or-false, any-false, false-any}
-use Rattle.sums.proofs.UpTo.{all-upTo, mem-upTo}
-use Rattle.sums.proofs.Closed.{closed-of-all}
+use Rattle.list_words.specs.Lists.{upTo, any, turned}
+use Rattle.list_words.proofs.Sums.{All, all-at, all-mono, all-flatMap}
+use Rattle.list_words.proofs.Tests.{not-false, or-false, any-false, false-any}
+use Rattle.list_words.proofs.UpTo.{all-upTo, mem-upTo}
+use Rattle.list_words.proofs.Closed.{closed-of-all}
 use Rattle.points.specs.declared.Point.{Point}
 use Rattle.points.specs.Points.{coordinates}
 use Rattle.solids.specs.declared.Verdict.the-variants.{Accepted}

@@ -3,11 +3,11 @@ use mathlib.Core.Path.{_≡_, sym, _∙_}
 use Prim.Native.Nat.{ℕ}
 use lib.Dec.{eqb, eqb→eq, eqb-refl}
 use lib.IntN.{ℤ, pos}
-use Rattle.sums.specs.Lists.{upTo, sumOf}
-use Rattle.sums.proofs.Sums.{sum-flatMap}
-use Rattle.sums.proofs.Closed.{Closed, Simple, closed-sum}
-use Rattle.sums.proofs.Signed as Signed
-use Rattle.sums.proofs.Signed.{sgn, sgn-anti}
+use Rattle.list_words.specs.Lists.{upTo, sumOf}
+use Rattle.list_words.proofs.Sums.{sum-flatMap}
+use Rattle.list_words.proofs.Closed.{Closed, Simple, closed-sum}
+use Rattle.list_words.proofs.Signed as Signed
+use Rattle.list_words.proofs.Signed.{sgn, sgn-anti}
 use Rattle.solids.proofs.Pairs.{flip}
 use Rattle.solids.specs.Solids.{Solid, Half, facets, facet-half-edges, half-edges, along}
 

@@ -5,14 +5,14 @@ use Prim.Native.Nat.{ℕ, zero, suc, _+_, _*_, _/_, _%_, _<_, _≤_}
 use native.Mathlib.Omega.{arith}
 use lib.Dec.{eqb, eqb→eq, eqb-refl}
 use lib.ListN.{length, getD}
-use Rattle.sums.specs.Lists.{any, upTo}
-use Rattle.sums.proofs.Sums.{All, all-at, all-mono}
-use Rattle.sums.proofs.Tests.{any-true, any-false, true-any}
-use Rattle.sums.proofs.Closed.{closed-of-all}
-use Rattle.sums.proofs.UpTo.{mem-upTo}
+use Rattle.list_words.specs.Lists.{any, upTo}
+use Rattle.list_words.proofs.Sums.{All, all-at, all-mono}
+use Rattle.list_words.proofs.Tests.{any-true, any-false, true-any}
+use Rattle.list_words.proofs.Closed.{closed-of-all}
+use Rattle.list_words.proofs.UpTo.{mem-upTo}
 use Rattle.solids.specs.Solids.{Solid, vertices, facets, half-edges, pairs}
 use Rattle.solids.specs.Admission.{faulty, differ}
-use Rattle.solids.specs.Table.{Low, Named}
+use Rattle.solids.specs.Words.{Low, Named}
 use Rattle.solids.proofs.Pairs.{mem-pairs}
 use Rattle.solids.proofs.Admitted.{All-proper, Between, sides, all-half-edges, fine, Matched, matched, shut-back}
 

@@ -4,10 +4,10 @@ use mathlib.Core.List.{List, [], _∷_, flatMap}
 use Prim.Native.Nat.{ℕ, _+_, _*_, _/_, _%_, _<_}
 use native.Mathlib.Omega.{arith}
 use lib.ListN.{length, getD}
-use Rattle.sums.specs.Lists.{upTo}
-use Rattle.sums.proofs.Sums.{All, all-at}
-use Rattle.sums.proofs.UpTo.{all-upTo, mem-upTo}
-use Rattle.sums.proofs.Threes.{third-threes, rest-threes, flat-threes, all-threes, threes-all}
+use Rattle.list_words.specs.Lists.{upTo}
+use Rattle.list_words.proofs.Sums.{All, all-at}
+use Rattle.list_words.proofs.UpTo.{all-upTo, mem-upTo}
+use Rattle.list_words.proofs.Threes.{third-threes, rest-threes, flat-threes, all-threes, threes-all}
 use Rattle.solids.specs.Solids.{Solid, facets, corner, half-edges-of, half-edges}
 
 module _ {B : Type 0} (f g h : B → ℕ) (ts : List B) (s : Solid) (laid : s .corners ≡ flatMap (λ t. f t ∷ g t ∷ h t ∷ []) ts) where

@@ -5,8 +5,8 @@ use mathlib.Core.List.{List, [], _∷_}
 use Prim.Native.Nat.{ℕ, zero, suc}
 use lib.ListN.{getD}
 use lib.Ieee.{Float, le, lt, neg, isNan}
-use Rattle.sums.proofs.Sums.{All}
-use Rattle.sums.proofs.Tests.{or-false, not-false}
+use Rattle.list_words.proofs.Sums.{All}
+use Rattle.list_words.proofs.Tests.{or-false, not-false}
 use Rattle.points.specs.declared.Point.{Point}
 use Rattle.points.specs.Points.{zero-number, coordinates}
 use Rattle.points.proofs.Order.{right-number, lt-not-le}

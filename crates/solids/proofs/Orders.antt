@@ -7,8 +7,8 @@ use Prim.Native.Nat.{ℕ}
 use native.Mathlib.Omega.{arith}
 use lib.IntN.{pos}
 use lib.Ieee.{isNan}
-use Rattle.sums.specs.Lists.{upTo, any}
-use Rattle.sums.proofs.Sums.{All}
+use Rattle.list_words.specs.Lists.{upTo, any}
+use Rattle.list_words.proofs.Sums.{All}
 use Rattle.points.specs.declared.Point.{Point}
 use Rattle.points.specs.Points.{coordinates}
 use Rattle.solids.specs.declared.Answer.{Answer}
@@ -20,7 +20,7 @@ use Rattle.solids.specs.Admission.{uneven, too-many, beyond, faulty, dif
 use Rattle.solids.specs.Admission.{check-lengths, check-sizes, check-blanks, check-limit, check-corners, check-closure, admission, point-admission}
 use Rattle.solids.specs.declared.Counted.{Counted}
 use Rattle.solids.specs.Containment.{in-A, in-B, counted, count-as-A, count-as-B}
-use Rattle.solids.specs.Table.{contained, count-as}
+use Rattle.solids.specs.Words.{contained, count-as}
 
 -- ---- any checks in order
 pub first-refusal : (vs ws : List Verdict) (n : Answer) → All (λ v. v ≡ Accepted) vs → in-order (vs ++ (Refused n ∷ ws)) ≡ Refused n

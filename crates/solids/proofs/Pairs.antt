@@ -8,11 +8,11 @@ use native.Mathlib.Omega.{arith}
 use native.Mathlib.Decide.{decLt}
 use lib.Dec.{eqb, eqb→eq, eqb-refl}
 use borrow.Author.Tests.{lt-ltb, le-ltb}
-use Rattle.sums.specs.Lists.{upTo, one-if, times, turned}
-use Rattle.sums.proofs.Sums.{All, all-map-of, all-flatMap, mem-flatMap}
-use Rattle.sums.proofs.Tests.{of-T}
-use Rattle.sums.proofs.UpTo.{Distinct, distinct-map, distinct-blocks, apart-maps, distinct-upTo, all-upTo, mem-upTo}
-use Rattle.sums.proofs.Closed.{same-half-self}
+use Rattle.list_words.specs.Lists.{upTo, one-if, times, turned}
+use Rattle.list_words.proofs.Sums.{All, all-map-of, all-flatMap, mem-flatMap}
+use Rattle.list_words.proofs.Tests.{of-T}
+use Rattle.list_words.proofs.UpTo.{Distinct, distinct-map, distinct-blocks, apart-maps, distinct-upTo, all-upTo, mem-upTo}
+use Rattle.list_words.proofs.Closed.{same-half-self}
 use Rattle.solids.specs.Solids.{Half, same-half, number-of, pairs, along, edge-of}
 
 abbrev pub row : ℕ → ℕ → List Half

@@ -7,12 +7,12 @@ use Prim.Native.Nat.{ℕ, _+_, _*_, _<_, _≤_}
 use native.Mathlib.Omega.{arith}
 use lib.Dec.{eqb, eqb→eq, eqb-refl}
 use lib.ListN.{length}
-use Rattle.sums.specs.Lists.{upTo, one-if, times, turned}
-use Rattle.sums.proofs.Sums.{All, all-mono}
-use Rattle.sums.proofs.Tests.{T-of}
-use Rattle.sums.proofs.UpTo.{Distinct, length-upTo}
-use Rattle.sums.proofs.Closed.{same-half-sound}
-use Rattle.sums.proofs.Threes.{length-threes}
+use Rattle.list_words.specs.Lists.{upTo, one-if, times, turned}
+use Rattle.list_words.proofs.Sums.{All, all-mono}
+use Rattle.list_words.proofs.Tests.{T-of}
+use Rattle.list_words.proofs.UpTo.{Distinct, length-upTo}
+use Rattle.list_words.proofs.Closed.{same-half-sound}
+use Rattle.list_words.proofs.Threes.{length-threes}
 use Rattle.solids.specs.Solids.{Solid, Half, facets, same-half, half-edges, number-of, edges, corner}
 use Rattle.solids.proofs.Admitted.{Passed}
 use Rattle.solids.proofs.Shut.{Is-edge, all-edges, edges-distinct}

@@ -8,12 +8,12 @@ use Prim.Native.Nat.{ℕ, _+_, _<_}
 use native.Mathlib.Omega.{arith}
 use lib.Dec.{ltb, eqb}
 use borrow.Author.Tests.{ltb-true, lt-ltb}
-use Rattle.sums.specs.Lists.{turned}
-use Rattle.sums.proofs.Sums.{All, all-at, all-mono, mem-flatMap}
-use Rattle.sums.proofs.Tests.{and-true, true-and, all-keep, mem-keep}
-use Rattle.sums.proofs.UpTo.{Distinct, distinct-keep, mem-upTo}
-use Rattle.sums.proofs.Closed.{Closed, Simple}
-use Rattle.sums.proofs.Signed.{Round, loop}
+use Rattle.list_words.specs.Lists.{turned}
+use Rattle.list_words.proofs.Sums.{All, all-at, all-mono, mem-flatMap}
+use Rattle.list_words.proofs.Tests.{and-true, true-and, all-keep, mem-keep}
+use Rattle.list_words.proofs.UpTo.{Distinct, distinct-keep, mem-upTo}
+use Rattle.list_words.proofs.Closed.{Closed, Simple}
+use Rattle.list_words.proofs.Signed.{Round, loop}
 use Rattle.solids.specs.Solids.{Solid, Half, vertices, facets, corner, facet-half-edges, half-edges, number-of, pairs, is-edge, edges, along, edge-of}
 use Rattle.solids.proofs.Pairs.{mem-pairs, all-pairs, distinct-pairs, counted-there, flip, next-edge}
 use Rattle.solids.proofs.Admitted.{Passed, Between, sides, all-half-edges}

@@ -4,10 +4,10 @@ use Prim.Native.Nat.{ℕ}
 use native.Mathlib.Nat.{mul-one}
 use lib.IntN.{ℤ}
 use lib.ListN.{length}
-use Rattle.sums.specs.Lists.{upTo, sumOf}
-use Rattle.sums.proofs.Integers.{Bnd, bnd-neg}
-use Rattle.sums.proofs.Sums.{all-of, bnd-sum}
-use Rattle.sums.proofs.UpTo.{length-upTo}
+use Rattle.list_words.specs.Lists.{upTo, sumOf}
+use Rattle.list_words.proofs.Integers.{Bnd, bnd-neg}
+use Rattle.list_words.proofs.Sums.{all-of, bnd-sum}
+use Rattle.list_words.proofs.UpTo.{length-upTo}
 use Rattle.points.specs.declared.Axis.the-variants.{Z}
 use Rattle.points.specs.declared.Point.{Point}
 use Rattle.crossings.specs.Crossings.{S, vf, fv}

@@ -10,12 +10,12 @@ use native.Mathlib.Numerals.{add-one}
 use lib.Dec.{eqb, eqb→eq, eqb-refl}
 use lib.ListN.{length, getD, set, length-set, length-append, replicate, length-replicate, getD-replicate}
 use lib.Seq.{getD-set-same, getD-set-other}
-use Rattle.sums.specs.Lists.{times, one-if, upTo}
-use Rattle.sums.proofs.Tests.{T-of, of-T, never}
-use Rattle.sums.proofs.Closed.{times-append, same-half-sound, same-half-self}
-use Rattle.sums.proofs.UpTo.{flat-upTo-suc}
+use Rattle.list_words.specs.Lists.{times, one-if, upTo}
+use Rattle.list_words.proofs.Tests.{T-of, of-T, never}
+use Rattle.list_words.proofs.Closed.{times-append, same-half-sound, same-half-self}
+use Rattle.list_words.proofs.UpTo.{flat-upTo-suc}
 use Rattle.solids.specs.Solids.{Half, solid, same-half, number-of, facet-half-edges}
-use Rattle.solids.specs.Table.{place, Tallied, Low, counted}
+use Rattle.solids.specs.Words.{place, Tallied, Low, counted}
 
 -- ---- a table of zeros, and one half-edge more
 pub tallied-none : Tallied (replicate 16384 0) []

@@ -7,7 +7,7 @@ use lib.ListN.{length}
 use lib.Dec.{leb, ltb, eqb}
 use lib.IntN.{pos}
 use lib.Ieee.{Float, fin, lt, neg, isNan}
-use Rattle.sums.specs.Lists.{upTo, any, turned}
+use Rattle.list_words.specs.Lists.{upTo, any, turned}
 use Rattle.points.specs.declared.Point.{Point}
 use Rattle.points.specs.Points.{coordinates}
 use Rattle.solids.specs.declared.Verdict.{Verdict}

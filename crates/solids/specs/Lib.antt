@@ -2,4 +2,4 @@ pub mod Refusals
 pub mod Solids
 pub mod Admission
 pub mod Containment
-pub mod Table
+pub mod Words

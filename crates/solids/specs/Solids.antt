@@ -6,7 +6,8 @@ use lib.ListN.{length, getD}
 use lib.Dec.{ltb, eqb}
 use lib.IntN.{ℤ, negℤ}
 use lib.Ieee.{Float}
-use Rattle.sums.specs.Lists.{upTo, keep, times, turned}
+use denote.Ref.{RefT}
+use Rattle.list_words.specs.Lists.{upTo, keep, times, turned}
 use Rattle.points.specs.declared.Point.{Point}
 use Rattle.points.specs.Points.{zero-number}
 use Rattle.crossings.specs.declared.Edge.{Edge}
@@ -19,6 +20,10 @@ pub record Solid : Type 0 where
 
 abbrev pub solid : List Float → List ℕ → Solid
 solid points corners = record { points = points; corners = corners }
+
+-- the solid that two lists hold which a caller lends
+abbrev pub lent : RefT (List Float) → RefT (List ℕ) → Solid
+lent points corners = solid (points .now) (corners .now)
 
 -- "The solid with no vertices is admitted; it means nothing"
 abbrev pub nothing : Solid

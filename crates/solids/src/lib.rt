@@ -1,5 +1,5 @@
 // What a call answers, what checks say of a solid or a point, and what a point count answers. The checks and the counts themselves are in the crates
-// `checks` and `containment`.
+// `admission` and `containment`.
 ghost use mathlib.Core.Path.{_≡_};
 ghost use Rattle.solids.specs.Refusals as Re;
 

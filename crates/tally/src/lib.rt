@@ -3,10 +3,10 @@ ghost use mathlib.Core.Path.{_≡_};
 ghost use mathlib.Core.List.{[]};
 ghost use Prim.Native.Nat.{_+_, _*_, _/_, _<_, _≤_};
 ghost use lib.ListN.{length, getD, set};
-ghost use Rattle.sums.specs.Lists.{any, upTo};
+ghost use Rattle.list_words.specs.Lists.{any, upTo};
 ghost use Rattle.solids.specs.Solids as So;
 ghost use Rattle.solids.specs.Admission as Ad;
-ghost use Rattle.solids.specs.Table as Ta;
+ghost use Rattle.solids.specs.Words as Sw;
 
 pub fn place(p: u32, q: u32) -> usize
     requires { ⌜ (p < 128) × (q < 128) ⌝ }
@@ -27,9 +27,9 @@ fn count(table: &mut [u16; 16384], p: u32, q: u32)
 
 // The three half-edges of facet f.
 fn count_facet(table: &mut [u16; 16384], corners: &[u32], f: usize)
-    requires { ⌜ Ta.Low (now corners) × (f < length (now corners) / 3) × (length (now corners) ≤ 768) ⌝ }
-    requires { ⌜ Ta.Tallied (now table) (Ta.counted (now corners) f) ⌝ }
-    ensures { λ r. ⌜ Ta.Tallied (now (table .exit)) (Ta.counted (now (corners .entry)) (f + 1)) ⌝ }
+    requires { ⌜ Sw.Low (now corners) × (f < length (now corners) / 3) × (length (now corners) ≤ 768) ⌝ }
+    requires { ⌜ Sw.Tallied (now table) (Sw.counted (now corners) f) ⌝ }
+    ensures { λ r. ⌜ Sw.Tallied (now (table .exit)) (Sw.counted (now (corners .entry)) (f + 1)) ⌝ }
 {
     let p = corners[3 * f];
     let q = corners[3 * f + 1];
@@ -41,8 +41,8 @@ fn count_facet(table: &mut [u16; 16384], corners: &[u32], f: usize)
 
 // All half-edges, counted into a table of zeros.
 pub fn tally(table: &mut [u16; 16384], corners: &[u32])
-    requires { ⌜ Ta.Low (now corners) × (length (now corners) ≤ 768) × Ta.Tallied (now table) [] ⌝ }
-    ensures { λ r. ⌜ Ta.Tallied (now (table .exit)) (So.half-edges (So.solid [] (now (corners .entry)))) ⌝ }
+    requires { ⌜ Sw.Low (now corners) × (length (now corners) ≤ 768) × Sw.Tallied (now table) [] ⌝ }
+    ensures { λ r. ⌜ Sw.Tallied (now (table .exit)) (So.half-edges (So.solid [] (now (corners .entry)))) ⌝ }
 {
     let mut f = 0;
     while f < corners.len() / 3 {
@@ -53,7 +53,7 @@ pub fn tally(table: &mut [u16; 16384], corners: &[u32])
 
 // Do the two directions between p and q differ in number?
 fn differ(table: &[u16; 16384], corners: &[u32], p: u32, q: u32) -> bool
-    requires { ⌜ (p < 128) × (q < 128) × Ta.Tallied (now table) (So.half-edges (So.solid [] (now corners))) ⌝ }
+    requires { ⌜ (p < 128) × (q < 128) × Sw.Tallied (now table) (So.half-edges (So.solid [] (now corners))) ⌝ }
     ensures { λ r. ⌜ r ≡ Ad.differ (So.half-edges (So.solid [] (now (corners .entry)))) (p, q) ⌝ }
 {
     let there = place(p, q);
@@ -67,7 +67,7 @@ fn differ(table: &[u16; 16384], corners: &[u32], p: u32, q: u32) -> bool
 
 // Does one of the three half-edges of facet f differ from its way back in number?
 fn facet_differs(table: &[u16; 16384], corners: &[u32], f: usize) -> bool
-    requires { ⌜ Ta.Low (now corners) × (f < length (now corners) / 3) × Ta.Tallied (now table) (So.half-edges (So.solid [] (now corners))) ⌝ }
+    requires { ⌜ Sw.Low (now corners) × (f < length (now corners) / 3) × Sw.Tallied (now table) (So.half-edges (So.solid [] (now corners))) ⌝ }
     ensures { λ r. ⌜ r ≡ any (Ad.differ (So.half-edges (So.solid [] (now (corners .entry))))) (So.facet-half-edges (So.solid [] (now (corners .entry))) f) ⌝ }
 {
     let p = corners[3 * f];
@@ -83,7 +83,7 @@ fn facet_differs(table: &[u16; 16384], corners: &[u32], f: usize) -> bool
 }
 
 pub fn some_differ(table: &[u16; 16384], corners: &[u32]) -> bool
-    requires { ⌜ Ta.Low (now corners) × Ta.Tallied (now table) (So.half-edges (So.solid [] (now corners))) ⌝ }
+    requires { ⌜ Sw.Low (now corners) × Sw.Tallied (now table) (So.half-edges (So.solid [] (now corners))) ⌝ }
     ensures { λ r. ⌜ r ≡ any (λ f. any (Ad.differ (So.half-edges (So.solid [] (now (corners .entry))))) (So.facet-half-edges (So.solid [] (now (corners .entry))) f)) (upTo (length (now (corners .entry)) / 3)) ⌝ }
 {
     let mut f = 0;

@@ -1,17 +1,17 @@
 // How many triangles there are, told by the ends of each facet's composite edges as they come: nothing is joined, and no piece is stored.
-use counting::Tally;
-use ends::composite;
-use ends::rows;
+use composite_ends::composite;
+use composite_ends::rows;
+use fan_counts::Tally;
 use layouts::Plan;
-use marking::fill;
+use touched_pairs::fill;
 ghost use mathlib.Core.Path.{_≡_};
 ghost use mathlib.Core.List.{flatMap};
 ghost use Prim.Native.Nat.{_+_, _*_, _<_, _≤_};
 ghost use lib.ListN.{length};
-ghost use Rattle.sums.specs.Lists.{upTo};
-ghost use Rattle.tables.specs.Table as T;
-ghost use Rattle.counting.specs.Counting as C;
-ghost use Rattle.kept.specs.Kept as K;
+ghost use Rattle.list_words.specs.Lists.{upTo};
+ghost use Rattle.vertex_table.specs.Words as T;
+ghost use Rattle.fan_counts.specs.Words as Fc;
+ghost use Rattle.kept_lists.specs.Words as K;
 
 // The ends of half-edge h's edge: "start (minus its inclusion), end (its inclusion), then crossings", those that are marked.
 fn tell_line(
@@ -26,18 +26,18 @@ fn tell_line(
     t: Tally,
 ) -> Tally
     requires { ⌜ K.Ready (now halves) (plan .sizes) (now inc) (now num) (K.rows (now first) (now crossed) (plan .base)) × K.Edges (plan .sizes) (K.rows (now first) (now crossed) (plan .base)) (now marks) × (h < 3 * (plan .sizes .fa + plan .sizes .fb)) × (t .pieces ≤ 1000000) × (t .at ≤ 1000000) ⌝ }
-    ensures told { λ r. ⌜ r ≡ C.tell t (K.line-ends (now (inc .entry)) (now (num .entry)) (K.rows (now (first .entry)) (now (crossed .entry)) (plan .base)) (now (halves .entry)) (plan .sizes) h (K.line-many (plan .sizes) h)) ⌝ }
-    ensures near { λ r. ⌜ C.Near t r 1026 ⌝ }
+    ensures told { λ r. ⌜ r ≡ Fc.tell t (K.line-ends (now (inc .entry)) (now (num .entry)) (K.rows (now (first .entry)) (now (crossed .entry)) (plan .base)) (now (halves .entry)) (plan .sizes) h (K.line-many (plan .sizes) h)) ⌝ }
+    ensures near { λ r. ⌜ Fc.Near t r 1026 ⌝ }
 {
     let row = 256 * rows::line_row(halves, plan.sizes, h);
     let end = row + rows::line_many(plan.sizes, h);
     let start = composite::corner(inc, num, halves, plan.sizes, h, 1, true);
     let stop = composite::corner(inc, num, halves, plan.sizes, h, 2, false);
-    let mut r = counting::tell(counting::tell(t, start), stop);
+    let mut r = fan_counts::tell(fan_counts::tell(t, start), stop);
     let mut i = marks::first(marks, row, end);
     while i < end {
         let e = composite::line_end(first, crossed, halves, plan, h, i - row, false);
-        r = counting::tell(r, e);
+        r = fan_counts::tell(r, e);
         i = marks::next(marks, i + 1, end);
     }
     r
@@ -54,8 +54,8 @@ fn tell_pair(
     t: Tally,
 ) -> Tally
     requires { ⌜ T.Halves (now halves) (plan .sizes) × K.Crossings (plan .sizes) (K.rows (now first) (now crossed) (plan .base)) × (f < plan .sizes .fa) × (g < plan .sizes .fb) × (t .pieces ≤ 1000000) × (t .at ≤ 1000000) ⌝ }
-    ensures told { λ r. ⌜ r ≡ C.tell t (K.pair-ends (K.rows (now (first .entry)) (now (crossed .entry)) (plan .base)) (now (halves .entry)) (plan .sizes) f g) ⌝ }
-    ensures near { λ r. ⌜ C.Near t r 12 ⌝ }
+    ensures told { λ r. ⌜ r ≡ Fc.tell t (K.pair-ends (K.rows (now (first .entry)) (now (crossed .entry)) (plan .base)) (now (halves .entry)) (plan .sizes) f g) ⌝ }
+    ensures near { λ r. ⌜ Fc.Near t r 12 ⌝ }
 {
     let m = plan.sizes.fa + g;
     let a = composite::a_end(first, crossed, halves, plan, g, 3 * f, false);
@@ -64,8 +64,8 @@ fn tell_pair(
     let d = composite::b_end(first, crossed, halves, plan, f, 3 * m, false);
     let e = composite::b_end(first, crossed, halves, plan, f, 3 * m + 1, false);
     let l = composite::b_end(first, crossed, halves, plan, f, 3 * m + 2, false);
-    let r = counting::tell(counting::tell(counting::tell(t, a), b), c);
-    counting::tell(counting::tell(counting::tell(r, d), e), l)
+    let r = fan_counts::tell(fan_counts::tell(fan_counts::tell(t, a), b), c);
+    fan_counts::tell(fan_counts::tell(fan_counts::tell(r, d), e), l)
 }
 
 // Those of facet x, A's or B's, with facet i of the other solid.
@@ -79,8 +79,8 @@ fn tell_side(
     t: Tally,
 ) -> Tally
     requires { ⌜ T.Halves (now halves) (plan .sizes) × K.Crossings (plan .sizes) (K.rows (now first) (now crossed) (plan .base)) × (x < plan .sizes .fa + plan .sizes .fb) × (i < T.others (plan .sizes) x) × (t .pieces ≤ 1000000) × (t .at ≤ 1000000) ⌝ }
-    ensures told { λ r. ⌜ r ≡ C.tell t (K.side-ends (K.rows (now (first .entry)) (now (crossed .entry)) (plan .base)) (now (halves .entry)) (plan .sizes) x i) ⌝ }
-    ensures near { λ r. ⌜ C.Near t r 12 ⌝ }
+    ensures told { λ r. ⌜ r ≡ Fc.tell t (K.side-ends (K.rows (now (first .entry)) (now (crossed .entry)) (plan .base)) (now (halves .entry)) (plan .sizes) x i) ⌝ }
+    ensures near { λ r. ⌜ Fc.Near t r 12 ⌝ }
 {
     if x < plan.sizes.fa {
         return tell_pair(first, crossed, halves, plan, x, i, t);
@@ -99,7 +99,7 @@ fn tell_row(
     t: Tally,
 ) -> Tally
     requires { ⌜ T.Halves (now halves) (plan .sizes) × K.Crossings (plan .sizes) (K.rows (now first) (now crossed) (plan .base)) × K.Pairs (K.rows (now first) (now crossed) (plan .base)) (now halves) (plan .sizes) (now marks) × (x < plan .sizes .fa + plan .sizes .fb) × (t .pieces ≤ 900000) × (t .at ≤ 900000) ⌝ }
-    ensures told { λ r. ⌜ r ≡ C.tell t (flatMap (K.side-ends (K.rows (now (first .entry)) (now (crossed .entry)) (plan .base)) (now (halves .entry)) (plan .sizes) x) (upTo (T.others (plan .sizes) x))) ⌝ }
+    ensures told { λ r. ⌜ r ≡ Fc.tell t (flatMap (K.side-ends (K.rows (now (first .entry)) (now (crossed .entry)) (plan .base)) (now (halves .entry)) (plan .sizes) x) (upTo (T.others (plan .sizes) x))) ⌝ }
 {
     let from = 256 * fill::facet_row(plan.sizes, x);
     let end = from + rows::others(plan.sizes, x);
@@ -138,7 +138,7 @@ fn fan_size(
     r.pieces - r.at
 }
 
-// How many triangles `put_triangles` (crates/triangles) stores, where no vertex of a composite edge has starts and stops and there are as many of each.
+// How many triangles `put_triangles` (crates/result_triangles) stores, where no vertex of a composite edge has starts and stops and there are as many of each.
 pub fn count_triangles(
     inc: &[i16],
     num: &[u32],

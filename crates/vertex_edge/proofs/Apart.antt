@@ -3,8 +3,8 @@
 use mathlib.Core.Path.{_≡_, refl, ap}
 use mathlib.Core.Bool.{Bool, true, false, not}
 use mathlib.Core.List.{[], _∷_}
-use Rattle.sums.specs.Lists.{sumOf}
-use Rattle.sums.proofs.Tests.{never}
+use Rattle.list_words.specs.Lists.{sumOf}
+use Rattle.list_words.proofs.Tests.{never}
 use Rattle.points.specs.declared.Point.{Point}
 use Rattle.points.specs.declared.Axis.{Axis}
 use Rattle.points.specs.declared.Axis.the-variants.{X, Y}

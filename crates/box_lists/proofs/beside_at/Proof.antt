@@ -1,5 +1,5 @@
 -- `beside_at` meets its contract.
-use Rattle.near.specs.Boxes.{beside, apart-on}
+use Rattle.bounds.specs.Words.{beside, apart-on}
 use borrow.Author.Needs.{needs}
 use Rattle.box_lists.proofs.beside_at.Statement.{statement}
 use Rattle.box_lists.proofs.beside_at.Tie as tie

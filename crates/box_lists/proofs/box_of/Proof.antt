@@ -2,8 +2,7 @@
 use mathlib.Core.Path.{ap, subst, _∙_}
 use Prim.Native.Nat.{_<_}
 use Rattle.solids.specs.Solids.{solid}
-use Rattle.near.specs.Boxes.{round-edge, round-facet}
-use Rattle.near.specs.Things.{many, box-of}
+use Rattle.bounds.specs.Words.{round-edge, round-facet, many, box-of}
 use borrow.Author.Needs.{needs}
 use Rattle.box_lists.proofs.box_of.Statement.{statement}
 use Rattle.box_lists.proofs.box_of.Tie as tie

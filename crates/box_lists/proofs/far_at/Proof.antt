@@ -1,10 +1,10 @@
 -- `far_at` meets its contract.
 use mathlib.Core.Path.{_≡_, sym, _∙_}
 use mathlib.Core.Bool.{true}
-use Rattle.near.specs.declared.Bounds.{Bounds}
-use Rattle.near.specs.declared.Far.{Far}
-use Rattle.near.specs.declared.Far.the-variants.{Apart, Below, Above}
-use Rattle.near.specs.Boxes.{beside, apart, apart-on, far}
+use Rattle.bounds.specs.declared.Bounds.{Bounds}
+use Rattle.bounds.specs.declared.Far.{Far}
+use Rattle.bounds.specs.declared.Far.the-variants.{Apart, Below, Above}
+use Rattle.bounds.specs.Words.{beside, apart, apart-on, far}
 use borrow.Author.Needs.{needs}
 use Rattle.box_lists.proofs.far_at.Statement.{statement}
 use Rattle.box_lists.proofs.far_at.Tie as tie

@@ -8,13 +8,12 @@ use native.Mathlib.Nat.{le-antisymm}
 use native.Mathlib.Numerals.{add-one}
 use lib.ListN.{length, length-set}
 use lib.Seq.{length-sets}
-use Rattle.sums.specs.Lists.{upTo}
-use Rattle.sums.proofs.Tests.{not-true, not-false}
-use Rattle.sums.proofs.UpTo.{length-upTo}
+use Rattle.list_words.specs.Lists.{upTo}
+use Rattle.list_words.proofs.Tests.{not-true, not-false}
+use Rattle.list_words.proofs.UpTo.{length-upTo}
 use Rattle.solids.specs.Solids.{solid}
-use Rattle.near.specs.Boxes.{far}
-use Rattle.near.specs.Things.{box-of, six, box-at, Narrowed}
-use Rattle.near.proofs.Listing.{narrowed-none, narrowed-no, narrowed-yes, boxed-next}
+use Rattle.bounds.specs.Words.{far, box-of, six, box-at, Narrowed}
+use Rattle.bounds.proofs.Listing.{narrowed-none, narrowed-no, narrowed-yes, boxed-next}
 use borrow.Author.Needs.{needs}
 use Rattle.box_lists.proofs.gather.Statement.{statement}
 use Rattle.box_lists.proofs.gather.Tie as tie
@@ -51,13 +50,41 @@ cast-columns : tie.Need-cast-columns Inv-loop μ-loop
 cast-columns c = record { fits = omega (arith, c .before .before .before .before .before .before .before .before .loop-test .taken, c .before .before .before .before .before .before .before .before .before .before .before .before .before .before .before .pre .0 .2) }
 
 mul-columns : tie.Need-mul-columns Inv-loop μ-loop
-mul-columns c = record { fits = omega (arith, c .before .before .before .before .before .before .before .before .loop-test .taken, c .before .before .before .before .before .before .before .before .before .before .before .before .before .before .before .pre .0 .2, c .before .before .before .before .before .before .before .before .before .loop .inv .3 .fits, length-upTo (c .before .before .before .before .before .before .before .before .before .loop .i)) }
+mul-columns c =
+    record {
+      fits =
+          omega (
+            arith,
+            c .before .before .before .before .before .before .before .before .loop-test .taken,
+            c .before .before .before .before .before .before .before .before .before .before .before .before .before .before .before .pre .0 .2,
+            c .before .before .before .before .before .before .before .before .before .loop .inv .3 .fits,
+            length-upTo (c .before .before .before .before .before .before .before .before .before .loop .i),
+          );
+    }
 
 slice-write-columns : tie.Need-slice-write-columns Inv-loop μ-loop
-slice-write-columns c = omega (arith, c .before .before .before .before .before .before .before .before .loop-test .taken, c .before .before .before .before .before .before .before .before .before .before .before .before .before .before .before .pre .1 .0, c .before .before .before .before .before .before .before .before .before .loop .inv .1, c .before .before .before .before .before .before .before .before .before .loop .inv .3 .fits, length-upTo (c .before .before .before .before .before .before .before .before .before .loop .i))
+slice-write-columns c =
+    omega (
+      arith,
+      c .before .before .before .before .before .before .before .before .loop-test .taken,
+      c .before .before .before .before .before .before .before .before .before .before .before .before .before .before .before .pre .1 .0,
+      c .before .before .before .before .before .before .before .before .before .loop .inv .1,
+      c .before .before .before .before .before .before .before .before .before .loop .inv .3 .fits,
+      length-upTo (c .before .before .before .before .before .before .before .before .before .loop .i),
+    )
 
 add-k : tie.Need-add-k Inv-loop μ-loop
-add-k c = record { fits = omega (arith, c .before .before .before .before .before .before .before .before .loop-test .taken, c .before .before .before .before .before .before .before .before .before .before .before .before .before .before .before .pre .0 .2, c .before .before .before .before .before .before .before .before .before .loop .inv .3 .fits, length-upTo (c .before .before .before .before .before .before .before .before .before .loop .i)) }
+add-k c =
+    record {
+      fits =
+          omega (
+            arith,
+            c .before .before .before .before .before .before .before .before .loop-test .taken,
+            c .before .before .before .before .before .before .before .before .before .before .before .before .before .before .before .pre .0 .2,
+            c .before .before .before .before .before .before .before .before .before .loop .inv .3 .fits,
+            length-upTo (c .before .before .before .before .before .before .before .before .before .loop .i),
+          );
+    }
 
 add-i : tie.Need-add-i Inv-loop μ-loop
 add-i c = search needs

@@ -7,9 +7,9 @@ use native.Mathlib.Nat.{le-antisymm}
 use native.Mathlib.Numerals.{add-one}
 use lib.ListN.{length, getD, take, length-set}
 use lib.Seq.{take-suc, take-length, length-take-le}
-use Rattle.sums.proofs.Tests.{not-true, not-false}
-use Rattle.near.specs.Things.{box-at, Narrowed}
-use Rattle.near.proofs.Listing.{narrowed-none, narrowed-no, narrowed-yes}
+use Rattle.list_words.proofs.Tests.{not-true, not-false}
+use Rattle.bounds.specs.Words.{box-at, Narrowed}
+use Rattle.bounds.proofs.Listing.{narrowed-none, narrowed-no, narrowed-yes}
 use borrow.Author.Needs.{needs}
 use Rattle.box_lists.proofs.narrow.Statement.{statement}
 use Rattle.box_lists.proofs.narrow.Tie as tie
@@ -36,13 +36,44 @@ far-at-requires : tie.Need-far-at-requires Inv-loop μ-loop
 far-at-requires c κs = c .before .before .before .before .before .before .pre .1 (c .before .before .loop .at) (c .before .loop-test .taken)
 
 mul-few : tie.Need-mul-few Inv-loop μ-loop
-mul-few c = record { fits = omega (arith, c .before .before .before .loop-test .taken, c .before .before .before .before .before .before .before .before .pre .0 .1, c .before .before .before .before .loop .inv .2 .fits, length-take-le (c .before .before .before .before .loop .at) (c .before .before .before .before .before .before .before .before .args .columns .now) (c .before .before .before .before .loop .inv .0)) }
+mul-few c =
+    record {
+      fits =
+          omega (
+            arith,
+            c .before .before .before .loop-test .taken,
+            c .before .before .before .before .before .before .before .before .pre .0 .1,
+            c .before .before .before .before .loop .inv .2 .fits,
+            length-take-le (c .before .before .before .before .loop .at)
+                (c .before .before .before .before .before .before .before .before .args .columns .now) (c .before .before .before .before .loop .inv .0),
+          );
+    }
 
 slice-write-few : tie.Need-slice-write-few Inv-loop μ-loop
-slice-write-few c = omega (arith, c .before .before .before .loop-test .taken, c .before .before .before .before .before .before .before .before .pre .0 .0, c .before .before .before .before .loop .inv .1, c .before .before .before .before .loop .inv .2 .fits, length-take-le (c .before .before .before .before .loop .at) (c .before .before .before .before .before .before .before .before .args .columns .now) (c .before .before .before .before .loop .inv .0))
+slice-write-few c =
+    omega (
+      arith,
+      c .before .before .before .loop-test .taken,
+      c .before .before .before .before .before .before .before .before .pre .0 .0,
+      c .before .before .before .before .loop .inv .1,
+      c .before .before .before .before .loop .inv .2 .fits,
+      length-take-le (c .before .before .before .before .loop .at)
+          (c .before .before .before .before .before .before .before .before .args .columns .now) (c .before .before .before .before .loop .inv .0),
+    )
 
 add-k : tie.Need-add-k Inv-loop μ-loop
-add-k c = record { fits = omega (arith, c .before .before .before .loop-test .taken, c .before .before .before .before .before .before .before .before .pre .0 .1, c .before .before .before .before .loop .inv .2 .fits, length-take-le (c .before .before .before .before .loop .at) (c .before .before .before .before .before .before .before .before .args .columns .now) (c .before .before .before .before .loop .inv .0)) }
+add-k c =
+    record {
+      fits =
+          omega (
+            arith,
+            c .before .before .before .loop-test .taken,
+            c .before .before .before .before .before .before .before .before .pre .0 .1,
+            c .before .before .before .before .loop .inv .2 .fits,
+            length-take-le (c .before .before .before .before .loop .at)
+                (c .before .before .before .before .before .before .before .before .args .columns .now) (c .before .before .before .before .loop .inv .0),
+          );
+    }
 
 add-at : tie.Need-add-at Inv-loop μ-loop
 add-at c = search needs

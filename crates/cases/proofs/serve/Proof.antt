@@ -1,5 +1,5 @@
 -- `serve` is safe and ends: the turns that are left fall.
-use Rattle.case_words.specs.Reading.{Sound}
+use Rattle.case_words.specs.Words.{Sound}
 use borrow.Author.Needs.{needs}
 use Rattle.cases.proofs.serve.Statement.{statement}
 use Rattle.cases.proofs.serve.Tie as tie

@@ -8,12 +8,12 @@ use lib.IntN.{negℤ, +ℤ-idl}
 use mir.Syntax.{w32}
 use mir.Val.{toZ, ofZ}
 use mir.Facts.{toZ-ofZ}
-use Rattle.sums.specs.Lists.{sumOf, upTo}
-use Rattle.sums.proofs.Integers.{bnd-neg}
+use Rattle.list_words.specs.Lists.{sumOf, upTo}
+use Rattle.list_words.proofs.Integers.{bnd-neg}
 use Rattle.crossings.proofs.Fits.{fits-neg}
 use Rattle.solids.specs.Solids.{solid, facet}
 use Rattle.solids.specs.Containment.{in-A, in-B}
-use Rattle.solids.specs.Table.{facet-S, contained}
+use Rattle.solids.specs.Words.{facet-S, contained}
 use borrow.Author.Needs.{needs}
 use Rattle.containment.proofs.contained.Statement.{statement}
 use Rattle.containment.proofs.contained.Tie as tie

@@ -1,5 +1,5 @@
 -- `count_as_a` meets its contract.
-use Rattle.solids.specs.Table.{count-as}
+use Rattle.solids.specs.Words.{count-as}
 use borrow.Author.Needs.{needs}
 use Rattle.containment.proofs.count_as_a.Statement.{statement}
 use Rattle.containment.proofs.count_as_a.Tie as tie

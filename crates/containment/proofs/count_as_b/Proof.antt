@@ -1,5 +1,5 @@
 -- `count_as_b` meets its contract.
-use Rattle.solids.specs.Table.{count-as}
+use Rattle.solids.specs.Words.{count-as}
 use borrow.Author.Needs.{needs}
 use Rattle.containment.proofs.count_as_b.Statement.{statement}
 use Rattle.containment.proofs.count_as_b.Tie as tie

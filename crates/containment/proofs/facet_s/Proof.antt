@@ -5,7 +5,7 @@ use mathlib.Core.Path.{_≡_, _∙_}
 use native.Mathlib.Omega.{arith}
 use mir.Syntax.{w32}
 use mir.Val.{toZ, ofZ}
-use Rattle.solids.specs.Table.{facet-S}
+use Rattle.solids.specs.Words.{facet-S}
 use borrow.Author.Needs.{needs}
 use Rattle.containment.proofs.facet_s.Statement.{statement}
 use Rattle.containment.proofs.facet_s.Tie as tie

@@ -12,13 +12,13 @@ use lib.Ieee.{Float}
 use mir.Syntax.{w32}
 use mir.Val.{toZ, ofZ}
 use mir.Facts.{toZ-ofZ}
-use Rattle.sums.specs.Lists.{sumOf, upTo}
-use Rattle.sums.proofs.Integers.{bnd-add}
-use Rattle.sums.proofs.UpTo.{sum-upTo-suc}
+use Rattle.list_words.specs.Lists.{sumOf, upTo}
+use Rattle.list_words.proofs.Integers.{bnd-add}
+use Rattle.list_words.proofs.UpTo.{sum-upTo-suc}
 use Rattle.points.specs.declared.Point.{Point}
 use Rattle.crossings.proofs.Fits.{fits-sum}
 use Rattle.solids.specs.Solids.{solid, facet}
-use Rattle.solids.specs.Table.{facet-S}
+use Rattle.solids.specs.Words.{facet-S}
 use borrow.Author.Needs.{needs}
 use Rattle.containment.proofs.sum_s.Statement.{statement}
 use Rattle.containment.proofs.sum_s.Tie as tie

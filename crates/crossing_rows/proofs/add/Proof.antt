@@ -7,14 +7,14 @@ use lib.IntN.{ℤ, natAbs, _*ℤ_}
 use lib.ListN.{length-set}
 use mir.Syntax.{w32}
 use mir.Val.{toZ, ofZ}
-use Rattle.sums.specs.Lists.{nonzero}
-use Rattle.sums.proofs.Widths.{back-32}
+use Rattle.list_words.specs.Lists.{nonzero}
+use Rattle.list_words.proofs.Widths.{back-32}
 use Rattle.crossings.proofs.Fits.{fits, zero-not, not-zero}
 use Rattle.solids.specs.Solids.{solid}
-use Rattle.layouts.specs.Packed.{packed}
+use Rattle.layouts.specs.Words.{packed}
 use Rattle.crossing_rows.specs.Words.{across, count-of}
 use Rattle.crossing_rows.proofs.Rowwise.{many-few}
-use Rattle.sums.proofs.Integers.{scaled}
+use Rattle.list_words.proofs.Integers.{scaled}
 use Rattle.crossing_rows.proofs.Listings.{crossing-one, crossing-zero, behind-none, behind-packed}
 use borrow.Author.Needs.{needs}
 use Rattle.crossing_rows.proofs.add.Statement.{statement}

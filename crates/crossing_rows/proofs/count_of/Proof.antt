@@ -5,7 +5,7 @@ use mir.Syntax.{w32}
 use mir.Val.{toZ, ofZ}
 use Rattle.crossings.specs.Crossings.{count, ef, fe}
 use Rattle.solids.specs.Solids.{solid}
-use Rattle.near.specs.Things.{many}
+use Rattle.bounds.specs.Words.{many}
 use Rattle.crossing_rows.specs.Words.{across, count-of}
 use borrow.Author.Needs.{needs}
 use Rattle.crossing_rows.proofs.count_of.Statement.{statement}

@@ -6,9 +6,9 @@ use native.Mathlib.Omega.{arith}
 use lib.ListN.{length, take}
 use Rattle.solids.specs.Solids.{Half}
 use Rattle.results.specs.Pieces.{pieces}
-use Rattle.joining.specs.Flat.{flat, Behind}
-use Rattle.kept.specs.Kept.{rows, line-row, half}
-use Rattle.kept.proofs.Gathered.{Gathered, gathered-none, gathered-first, gathered-after, gathered-all, line-room, corner-in, row-few}
+use Rattle.joined_ends.specs.Words.{flat, Behind}
+use Rattle.kept_lists.specs.Words.{rows, line-row, half}
+use Rattle.kept_lists.proofs.Gathered.{Gathered, gathered-none, gathered-first, gathered-after, gathered-all, line-room, corner-in, row-few}
 use borrow.Author.Needs.{needs}
 use Rattle.edge_pieces.proofs.few_pieces.Statement.{statement}
 use Rattle.edge_pieces.proofs.few_pieces.Tie as tie
@@ -38,7 +38,19 @@ line-many-requires : tie.Need-line-many-requires Inv-loop μ-loop
 line-many-requires c κs = let s = c .before .before .before .before .before .before .before in s .pre .0 .0 .halves .sized
 
 add-end : tie.Need-add-end Inv-loop μ-loop
-add-end c = let s = c .before .before .before .before .before .before .before .before in let a = s .args in let er = c .before .line-row .ensures in let em = c .line-many .ensures in record { fits = omega (arith, line-room (a .inc .now) (a .num .now) (rows (a .first .now) (a .crossed .now) (a .plan .base)) (a .halves .now) (a .plan .sizes) (a .h) (s .pre .0 .0 .halves) (s .pre .0 .1) (s .pre .0 .2) _ _ er em) }
+add-end c =
+    let s = c .before .before .before .before .before .before .before .before in
+    let a = s .args in
+    let er = c .before .line-row .ensures in
+    let em = c .line-many .ensures in
+    record {
+      fits =
+          omega (
+            arith,
+            line-room (a .inc .now) (a .num .now) (rows (a .first .now) (a .crossed .now) (a .plan .base)) (a .halves .now) (a .plan .sizes) (a .h)
+                (s .pre .0 .0 .halves) (s .pre .0 .1) (s .pre .0 .2) _ _ er em,
+          );
+    }
 
 against-requires : tie.Need-against-requires Inv-loop μ-loop
 against-requires c κs = let s = c .before .before .before .before .before .before .before .before in omega (arith, s .pre .0 .0 .halves .long, s .pre .0 .2)
@@ -56,7 +68,15 @@ array-set-from-all-2 : tie.Need-array-set-from-all-2 Inv-loop μ-loop
 array-set-from-all-2 c = search needs
 
 first-requires : tie.Need-first-requires Inv-loop μ-loop
-first-requires c κs = let s = c .before .before .before .before .before .before .before .before .before .before .before in let a = s .args in let er = c .before .before .before .before .line-row .ensures in let em = c .before .before .before .line-many .ensures in let r = line-room (a .inc .now) (a .num .now) (rows (a .first .now) (a .crossed .now) (a .plan .base)) (a .halves .now) (a .plan .sizes) (a .h) (s .pre .0 .0 .halves) (s .pre .0 .1) (s .pre .0 .2) _ _ er em in (omega arith, omega arith, omega (arith, r .1), r .0, s .pre .0 .1 .few)
+first-requires c κs =
+    let s = c .before .before .before .before .before .before .before .before .before .before .before in
+    let a = s .args in
+    let er = c .before .before .before .before .line-row .ensures in
+    let em = c .before .before .before .line-many .ensures in
+    let r =
+    line-room (a .inc .now) (a .num .now) (rows (a .first .now) (a .crossed .now) (a .plan .base)) (a .halves .now) (a .plan .sizes) (a .h)
+    (s .pre .0 .0 .halves) (s .pre .0 .1) (s .pre .0 .2) _ _ er em in
+    (omega arith, omega arith, omega (arith, r .1), r .0, s .pre .0 .1 .few)
 
 loop-holds : tie.Need-loop-holds Inv-loop μ-loop
 loop-holds c = let s = c .before .before .before .before .before .before .before .before .before .before .before .before in
@@ -87,19 +107,50 @@ line-end-requires c κs = let l = c .before .before in
     (s .pre .0 .0 .halves, s .pre .0 .0 .crossings, s .pre .0 .2, rw (← em) (omega (arith, c .before .loop-test .taken, l .loop .inv .0)))
 
 mul-all : tie.Need-mul-all Inv-loop μ-loop
-mul-all c = let s = c .before .before .before .before .before .before .before .before .before .before .before .before .before .before .before .before in let a = s .args in let er = c .before .before .before .before .before .before .before .before .before .line-row .ensures in let em = c .before .before .before .before .before .before .before .before .line-many .ensures in record { fits = omega (arith, c .before .before .before .loop .inv .3, c .before .if1 .left) }
+mul-all c =
+    let s = c .before .before .before .before .before .before .before .before .before .before .before .before .before .before .before .before in
+    let a = s .args in
+    let er = c .before .before .before .before .before .before .before .before .before .line-row .ensures in
+    let em = c .before .before .before .before .before .before .before .before .line-many .ensures in
+    record { fits = omega (arith, c .before .before .before .loop .inv .3, c .before .if1 .left) }
 
 array-set-from-all-3 : tie.Need-array-set-from-all-3 Inv-loop μ-loop
-array-set-from-all-3 c = let s = c .before .before .before .before .before .before .before .before .before .before .before .before .before .before .before .before in let a = s .args in let er = c .before .before .before .before .before .before .before .before .before .line-row .ensures in let em = c .before .before .before .before .before .before .before .before .line-many .ensures in omega (arith, c .before .before .before .loop .inv .3, c .before .if1 .left)
+array-set-from-all-3 c =
+    let s = c .before .before .before .before .before .before .before .before .before .before .before .before .before .before .before .before in
+    let a = s .args in
+    let er = c .before .before .before .before .before .before .before .before .before .line-row .ensures in
+    let em = c .before .before .before .before .before .before .before .before .line-many .ensures in
+    omega (arith, c .before .before .before .loop .inv .3, c .before .if1 .left)
 
 add-n : tie.Need-add-n Inv-loop μ-loop
-add-n c = let s = c .before .before .before .before .before .before .before .before .before .before .before .before .before .before .before .before in let a = s .args in let er = c .before .before .before .before .before .before .before .before .before .line-row .ensures in let em = c .before .before .before .before .before .before .before .before .line-many .ensures in record { fits = omega (arith, c .before .before .before .loop .inv .3, c .before .if1 .left) }
+add-n c =
+    let s = c .before .before .before .before .before .before .before .before .before .before .before .before .before .before .before .before in
+    let a = s .args in
+    let er = c .before .before .before .before .before .before .before .before .before .line-row .ensures in
+    let em = c .before .before .before .before .before .before .before .before .line-many .ensures in
+    record { fits = omega (arith, c .before .before .before .loop .inv .3, c .before .if1 .left) }
 
 add-next : tie.Need-add-next Inv-loop μ-loop
-add-next c = let s = c .before .before .before .before .before .before .before .before .before .before .before .before .before .before .before .before in let a = s .args in let er = c .before .before .before .before .before .before .before .before .before .line-row .ensures in let em = c .before .before .before .before .before .before .before .before .line-many .ensures in let r = line-room (a .inc .now) (a .num .now) (rows (a .first .now) (a .crossed .now) (a .plan .base)) (a .halves .now) (a .plan .sizes) (a .h) (s .pre .0 .0 .halves) (s .pre .0 .1) (s .pre .0 .2) _ _ er em in record { fits = omega (arith, c .before .before .loop-test .taken, r .1, r .2) }
+add-next c =
+    let s = c .before .before .before .before .before .before .before .before .before .before .before .before .before .before .before .before in
+    let a = s .args in
+    let er = c .before .before .before .before .before .before .before .before .before .line-row .ensures in
+    let em = c .before .before .before .before .before .before .before .before .line-many .ensures in
+    let r =
+    line-room (a .inc .now) (a .num .now) (rows (a .first .now) (a .crossed .now) (a .plan .base)) (a .halves .now) (a .plan .sizes) (a .h)
+    (s .pre .0 .0 .halves) (s .pre .0 .1) (s .pre .0 .2) _ _ er em in
+    record { fits = omega (arith, c .before .before .loop-test .taken, r .1, r .2) }
 
 next-requires : tie.Need-next-requires Inv-loop μ-loop
-next-requires c κs = let s = c .before .before .before .before .before .before .before .before .before .before .before .before .before .before .before .before in let a = s .args in let er = c .before .before .before .before .before .before .before .before .before .line-row .ensures in let em = c .before .before .before .before .before .before .before .before .line-many .ensures in let r = line-room (a .inc .now) (a .num .now) (rows (a .first .now) (a .crossed .now) (a .plan .base)) (a .halves .now) (a .plan .sizes) (a .h) (s .pre .0 .0 .halves) (s .pre .0 .1) (s .pre .0 .2) _ _ er em in (omega (arith, c .before .before .loop-test .taken), omega (arith, r .0, r .1), s .pre .0 .1 .few)
+next-requires c κs =
+    let s = c .before .before .before .before .before .before .before .before .before .before .before .before .before .before .before .before in
+    let a = s .args in
+    let er = c .before .before .before .before .before .before .before .before .before .line-row .ensures in
+    let em = c .before .before .before .before .before .before .before .before .line-many .ensures in
+    let r =
+    line-room (a .inc .now) (a .num .now) (rows (a .first .now) (a .crossed .now) (a .plan .base)) (a .halves .now) (a .plan .sizes) (a .h)
+    (s .pre .0 .0 .halves) (s .pre .0 .1) (s .pre .0 .2) _ _ er em in
+    (omega (arith, c .before .before .loop-test .taken), omega (arith, r .0, r .1), s .pre .0 .1 .few)
 
 loop-less : tie.Need-loop-less Inv-loop μ-loop
 loop-less c = omega (arith, c .next .ensures .low, c .next .ensures .high, c .before .before .before .loop-test .taken)
@@ -112,8 +163,15 @@ loop-again c = let l = c .before .before .before .before in
     let em = l .before .before .before .before .before .line-many .ensures in
     let w = (rows (a .first .now) (a .crossed .now) (a .plan .base)) in
     let e = c .before .line-end in
-    let k : l .loop .n < 8 = omega (arith, l .loop .inv .3, c .before .before .if1 .left) in
-    (omega (arith, c .next .ensures .low, l .loop .inv .0), c .next .ensures .high, gathered-after (a .inc .now) (a .num .now) w (a .halves .now) (a .plan .sizes) (a .h) (s .pre .0 .0 .halves) (s .pre .0 .1) (s .pre .0 .2) _ _ er em (l .loop .inv .2) (e .result) (rw (l .before .before .before .before .against .ensures) at (e .ensures)) k (l .loop .inv .0) (c .next .ensures), omega (arith, k), l .loop .inv .4)
+    let k : l .loop .n < 8 = omega (arith, l .loop .inv .3, c .before .before .if1 .left) in (
+      omega (arith, c .next .ensures .low, l .loop .inv .0),
+      c .next .ensures .high,
+      gathered-after (a .inc .now) (a .num .now) w (a .halves .now) (a .plan .sizes) (a .h) (s .pre .0 .0 .halves) (s .pre .0 .1) (s .pre .0 .2) _ _ er
+          em (l .loop .inv .2) (e .result) (rw (l .before .before .before .before .against .ensures) at (e .ensures)) k (l .loop .inv .0)
+          (c .next .ensures),
+      omega (arith, k),
+      l .loop .inv .4,
+    )
 
 join-few-at-requires : tie.Need-join-few-at-requires Inv-loop μ-loop
 join-few-at-requires c κs = let d = c .before in

@@ -6,9 +6,9 @@ use native.Mathlib.Omega.{arith}
 use lib.ListN.{length}
 use Rattle.solids.specs.Solids.{Half}
 use Rattle.results.specs.Pieces.{pieces}
-use Rattle.joining.specs.Flat.{flat, Behind}
-use Rattle.kept.specs.Kept.{Rows, rows, half}
-use Rattle.kept.proofs.Gathered.{gathered-none, gathered-first, gathered-all, line-room, corner-in, row-few}
+use Rattle.joined_ends.specs.Words.{flat, Behind}
+use Rattle.kept_lists.specs.Words.{Rows, rows, half}
+use Rattle.kept_lists.proofs.Gathered.{gathered-none, gathered-first, gathered-all, line-room, corner-in, row-few}
 use Rattle.edge_pieces.proofs.half_pieces.Statement.{statement}
 use Rattle.edge_pieces.proofs.half_pieces.Tie as tie
 

@@ -45,7 +45,12 @@ element-copy-out-result c = search needs
 
 returns-2 : tie.Need-returns-2
 unfolding is-edge
-returns-2 c = let s = c .before .before .before .before .before .before .before in let z : number-of (s .args .p, s .args .q) (hs s) ≡ 0 = sym (there s) ∙ ap (λ i. getD (s .args .table .now) i 0) (sym (c .before .before .before .before .place .ensures .0)) ∙ (omega arith) in rw (lt-ltb (s .args .p) (s .args .q) (c .before .before .before .before .before .if1 .taken), z, zero-add, ← back s, ← c .before .place2 .ensures .0)
+returns-2 c =
+    let s = c .before .before .before .before .before .before .before in
+    let z : number-of (s .args .p, s .args .q) (hs s) ≡ 0 =
+    sym (there s) ∙ ap (λ i. getD (s .args .table .now) i 0) (sym (c .before .before .before .before .place .ensures .0)) ∙ (omega arith) in
+    rw
+    (lt-ltb (s .args .p) (s .args .q) (c .before .before .before .before .before .if1 .taken), z, zero-add, ← back s, ← c .before .place2 .ensures .0)
 
 returns-3 : tie.Need-returns-3
 unfolding is-edge

@@ -5,7 +5,7 @@ use mathlib.Core.List.{List, [], _∷_, _++_, append-nil}
 use Prim.Native.Nat.{_+_, _≤_}
 use native.Mathlib.Omega.{arith}
 use native.Mathlib.Nat.{mul-le-mul-right}
-use Rattle.sums.proofs.Sums.{All}
+use Rattle.list_words.proofs.Sums.{All}
 use Rattle.solids.specs.Solids.{Half, solid, half-edges, is-edge}
 use Rattle.edges.specs.Words.{edges-seen}
 use Rattle.edges.proofs.Edges.{edges-next, edges-few, Earlier, edges-earlier, listed-next}
@@ -71,7 +71,11 @@ same-length : tie.Need-same-length
 same-length c = search needs
 
 returns : tie.Need-returns
-returns c = let s = c .before .before .before .before .before .before .before .before .before .before .before .before .before in rw (one-more s (sym (c .before .before .before .before .before .before .before .before .before .before .joins .ensures) ∙ c .before .before .before .before .before .before .before .before .before .if1 .taken), c .before .before .before .store2 .ensures, c .before .before .before .before .before .before .before .store .ensures, c .place .ensures .0) (listed-next (so-far s) (s .args .ends .now) (s .args .numbers .now) (s .args .k) (s .args .p) (s .args .q) (omega arith) (omega arith) (early s) (s .pre .1))
+returns c =
+    let s = c .before .before .before .before .before .before .before .before .before .before .before .before .before in
+    rw
+    (one-more s (sym (c .before .before .before .before .before .before .before .before .before .before .joins .ensures) ∙ c .before .before .before .before .before .before .before .before .before .if1 .taken), c .before .before .before .store2 .ensures, c .before .before .before .before .before .before .before .store .ensures, c .place .ensures .0)
+    (listed-next (so-far s) (s .args .ends .now) (s .args .numbers .now) (s .args .k) (s .args .p) (s .args .q) (omega arith) (omega arith) (early s) (s .pre .1))
 
 returns-2 : tie.Need-returns-2
 returns-2 c = let s = c .before .before .before .before in rw (no-more s (sym (c .before .joins .ensures) ∙ c .if1 .left)) (s .pre .1)

@@ -2,7 +2,7 @@
 use native.Mathlib.Omega.{arith}
 use borrow.Author.Tests.{lt-ltb, le-ltb}
 use borrow.Author.Needs.{needs}
-use Rattle.kept.specs.Kept.{pair}
+use Rattle.kept_lists.specs.Words.{pair}
 use Rattle.facet_pieces.proofs.pair_at.Statement.{statement}
 use Rattle.facet_pieces.proofs.pair_at.Tie as tie
 

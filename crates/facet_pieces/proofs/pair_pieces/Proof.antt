@@ -7,10 +7,10 @@ use lib.ListN.{length}
 use Rattle.solids.specs.Solids.{Half}
 use Rattle.results.specs.declared.End.{End}
 use Rattle.results.specs.Pieces.{pieces}
-use Rattle.joining.specs.Flat.{flat, Behind}
-use Rattle.tables.specs.Table.{flip, turn}
-use Rattle.tables.proofs.Gather.{turn-pieces}
-use Rattle.kept.specs.Kept.{rows, pair-ends}
+use Rattle.joined_ends.specs.Words.{flat, Behind}
+use Rattle.vertex_table.specs.Words.{flip, turn}
+use Rattle.vertex_table.proofs.Gather.{turn-pieces}
+use Rattle.kept_lists.specs.Words.{rows, pair-ends}
 use borrow.Author.Needs.{needs}
 use Rattle.facet_pieces.proofs.pair_pieces.Statement.{statement}
 use Rattle.facet_pieces.proofs.pair_pieces.Tie as tie

@@ -1,7 +1,7 @@
 -- `bad_point` meets its contract: the first coordinate that is bad decides.
 use mathlib.Core.Path.{sym}
 use mathlib.Core.Bool.{or-false}
-use Rattle.sums.specs.Lists.{any}
+use Rattle.list_words.specs.Lists.{any}
 use borrow.Author.Needs.{needs}
 use Rattle.faults.proofs.bad_point.Statement.{statement}
 use Rattle.faults.proofs.bad_point.Tie as tie

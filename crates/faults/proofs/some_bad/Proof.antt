@@ -7,12 +7,12 @@ use native.Mathlib.Nat.{le-antisymm}
 use native.Mathlib.Omega.{arith}
 use lib.Ieee.{Float}
 use lib.ListN.{length}
-use Rattle.sums.specs.Lists.{any, upTo}
-use Rattle.sums.proofs.Searches.{any-upTo-next, any-upTo-found}
-use Rattle.sums.proofs.Threes.{any-threes}
+use Rattle.list_words.specs.Lists.{any, upTo}
+use Rattle.list_words.proofs.Searches.{any-upTo-next, any-upTo-found}
+use Rattle.list_words.proofs.Threes.{any-threes}
 use Rattle.points.specs.Points.{coordinates, zero-number}
 use Rattle.solids.specs.Solids.{solid, vertex}
-use Rattle.solids.specs.Table.{bad}
+use Rattle.solids.specs.Words.{bad}
 use borrow.Author.Needs.{needs}
 use Rattle.faults.proofs.some_bad.Statement.{statement}
 use Rattle.faults.proofs.some_bad.Tie as tie

@@ -5,8 +5,8 @@ use mathlib.Core.Bool.{false}
 use Prim.Native.Nat.{_≤_, _-_, _/_}
 use native.Mathlib.Omega.{arith}
 use lib.ListN.{length}
-use Rattle.sums.specs.Lists.{any, upTo}
-use Rattle.sums.proofs.Searches.{any-upTo-next, any-upTo-found}
+use Rattle.list_words.specs.Lists.{any, upTo}
+use Rattle.list_words.proofs.Searches.{any-upTo-next, any-upTo-found}
 use Rattle.solids.specs.Solids.{solid}
 use Rattle.solids.specs.Admission.{faulty}
 use borrow.Author.Needs.{needs}

@@ -2,7 +2,7 @@
 use borrow.Author.Needs.{needs}
 use borrow.Author.Tests.{lt-ltb, le-ltb}
 use Rattle.solids.specs.Refusals.{in-order}
-use Rattle.housefile_reader.specs.Walking.{refusal}
+use Rattle.housefile_reader.specs.Words.{refusal}
 use Rattle.housefile_reader.proofs.refusal.Statement.{statement}
 use Rattle.housefile_reader.proofs.refusal.Tie as tie
 

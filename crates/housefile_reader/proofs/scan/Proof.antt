@@ -5,7 +5,7 @@ use native.Mathlib.Omega.{arith}
 use lib.ListN.{length, drop, length-drop}
 use lib.Seq.{take-all}
 use borrow.Author.Needs.{needs}
-use Rattle.sums.specs.Lists.{one-if}
+use Rattle.list_words.specs.Lists.{one-if}
 use Rattle.housefile.specs.Records.{decoded}
 use Rattle.housefile_reader.proofs.Walks.{Walked, walk-starts, walk-goes-on, walk-less, walk-ends, reaches}
 use Rattle.housefile_reader.proofs.scan.Statement.{statement}

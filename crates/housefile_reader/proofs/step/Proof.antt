@@ -3,7 +3,7 @@ use mathlib.Core.Path.{_≡_, ap}
 use native.Mathlib.Omega.{arith}
 use borrow.Author.Needs.{needs}
 use Rattle.housefile.specs.Records.{size}
-use Rattle.housefile_reader.specs.Walking.{stepped}
+use Rattle.housefile_reader.specs.Words.{stepped}
 use Rattle.housefile_reader.proofs.step.Statement.{statement}
 use Rattle.housefile_reader.proofs.step.Tie as tie
 

@@ -5,7 +5,7 @@ use native.Mathlib.Omega.{arith}
 use borrow.Author.Needs.{needs}
 use Rattle.numbers.specs.Numbers.{bytes}
 use Rattle.numbers.proofs.Numbers.{length-bytes}
-use Rattle.lists.proofs.Stores.{sets-four}
+use Rattle.list_stores.proofs.Stores.{sets-four}
 use Rattle.housefile.specs.Records.{mark-FC, encoded}
 use Rattle.housefile_records.proofs.put_facet.Statement.{statement}
 use Rattle.housefile_records.proofs.put_facet.Tie as tie

@@ -4,11 +4,11 @@ use Prim.Native.Nat.{_+_}
 use native.Mathlib.Omega.{arith}
 use lib.Ieee.{isNan}
 use borrow.Author.Needs.{needs}
-use Rattle.sums.proofs.Tests.{any-false}
+use Rattle.list_words.proofs.Tests.{any-false}
 use Rattle.numbers.specs.Numbers.{bytes, float-bytes}
 use Rattle.numbers.proofs.Numbers.{length-float-bytes}
 use Rattle.points.specs.Points.{coordinates}
-use Rattle.lists.proofs.Stores.{sets-four}
+use Rattle.list_stores.proofs.Stores.{sets-four}
 use Rattle.housefile.specs.Records.{mark-VX}
 use Rattle.housefile.proofs.Records.{vx-parts}
 use Rattle.housefile_records.proofs.put_vertex.Statement.{statement}

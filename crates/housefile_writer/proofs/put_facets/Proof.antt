@@ -7,12 +7,12 @@ use native.Mathlib.Omega.{arith}
 use lib.ListN.{length}
 use lib.Seq.{sets, length-sets}
 use borrow.Author.Needs.{needs}
-use Rattle.sums.specs.Lists.{upTo}
-use Rattle.lists.proofs.Stores.{run-next}
+use Rattle.list_words.specs.Lists.{upTo}
+use Rattle.list_stores.proofs.Stores.{run-next}
 use Rattle.solids.specs.Solids.{solid, corner}
 use Rattle.housefile.specs.declared.Record.the-variants.{Fc}
 use Rattle.housefile.specs.Records.{encoded}
-use Rattle.housefile_writer.specs.Parts.{facet-part}
+use Rattle.housefile_writer.specs.Words.{facet-part}
 use Rattle.housefile.proofs.Records.{length-encoded}
 use Rattle.housefile_writer.proofs.put_facets.Statement.{statement}
 use Rattle.housefile_writer.proofs.put_facets.Tie as tie

@@ -8,12 +8,12 @@ use lib.ListN.{length}
 use lib.Seq.{sets, length-sets}
 use lib.Ieee.{Float}
 use borrow.Author.Needs.{needs}
-use Rattle.sums.specs.Lists.{upTo}
-use Rattle.lists.proofs.Stores.{run-next}
+use Rattle.list_words.specs.Lists.{upTo}
+use Rattle.list_stores.proofs.Stores.{run-next}
 use Rattle.solids.specs.Solids.{solid, vertex}
 use Rattle.housefile.specs.declared.Record.the-variants.{Vx}
 use Rattle.housefile.specs.Records.{encoded}
-use Rattle.housefile_writer.specs.Parts.{vertex-part}
+use Rattle.housefile_writer.specs.Words.{vertex-part}
 use Rattle.housefile.proofs.Records.{length-encoded}
 use Rattle.housefile_writer.proofs.Blanks.{vertex-present}
 use Rattle.housefile_writer.proofs.put_vertices.Statement.{statement}

@@ -5,14 +5,14 @@ use native.Mathlib.Omega.{arith}
 use lib.ListN.{length}
 use lib.Ieee.{isNan}
 use borrow.Author.Needs.{needs}
-use Rattle.sums.specs.Lists.{onto}
-use Rattle.sums.proofs.Tests.{false-any}
+use Rattle.list_words.specs.Lists.{onto}
+use Rattle.list_words.proofs.Tests.{false-any}
 use Rattle.solids.specs.Refusals.{no-refusal}
 use Rattle.solids.specs.declared.Verdict.the-variants.{Accepted}
 use Rattle.solids.specs.Solids.{Solid, solid, vertices, facets}
 use Rattle.solids.specs.Admission.{admission}
 use Rattle.solids.proofs.Admitted.{Passed, passed}
-use Rattle.housefile_writer.specs.Parts.{vertex-part, facet-part}
+use Rattle.housefile_writer.specs.Words.{vertex-part, facet-part}
 use Rattle.housefile.specs.Writer.{file}
 use Rattle.housefile.proofs.Shown.{length-file}
 use Rattle.housefile.proofs.Refusals.{write-first, write-then-8, write-else}

@@ -8,14 +8,14 @@ use lib.IntN.{negℤ, +ℤ-idl}
 use mir.Syntax.{w32}
 use mir.Val.{toZ, ofZ}
 use mir.Facts.{toZ-ofZ}
-use Rattle.sums.specs.Lists.{sumOf, upTo}
-use Rattle.sums.proofs.Integers.{bnd-neg}
+use Rattle.list_words.specs.Lists.{sumOf, upTo}
+use Rattle.list_words.proofs.Integers.{bnd-neg}
 use Rattle.crossings.proofs.Fits.{fits-neg}
 use Rattle.solids.specs.Solids.{solid, facet}
 use Rattle.solids.specs.Containment.{in-A, in-B}
-use Rattle.solids.specs.Table.{facet-S, contained}
+use Rattle.solids.specs.Words.{facet-S, contained}
 use Rattle.solids.proofs.Admitted.{passed}
-use Rattle.near.specs.Boxes.{apart}
+use Rattle.bounds.specs.Words.{apart}
 use Rattle.inclusions.proofs.Level.{none-apart}
 use borrow.Author.Needs.{needs}
 use Rattle.inclusions.proofs.contained_near.Statement.{statement}

@@ -8,21 +8,21 @@ use lib.ListN.{length}
 use lib.Seq.{length-take-le}
 use mir.Syntax.{w32}
 use mir.Val.{toZ, ofZ}
-use Rattle.sums.proofs.Widths.{back-32}
+use Rattle.list_words.proofs.Widths.{back-32}
 use Rattle.solids.specs.Solids.{Solid, solid, vertex}
 use Rattle.solids.specs.Containment.{in-A, in-B}
-use Rattle.solids.specs.Table.{contained}
+use Rattle.solids.specs.Words.{contained}
 use Rattle.solids.proofs.Admitted.{passed}
 use Rattle.results.specs.declared.Numbers.{Numbers}
 use Rattle.results.specs.declared.Operation.{Operation}
 use Rattle.results.specs.declared.Operation.the-variants.{Union, Intersection, Difference}
 use Rattle.results.specs.Inclusion.{numbers, cA, cB, cI, inclusion, vA, vB}
-use Rattle.near.specs.declared.Bounds.{Bounds}
-use Rattle.near.specs.Things.{whole}
-use Rattle.near.proofs.Things.{number-vertex, all-hull}
+use Rattle.bounds.specs.declared.Bounds.{Bounds}
+use Rattle.bounds.specs.Words.{whole}
+use Rattle.bounds.proofs.Things.{number-vertex, all-hull}
 use Rattle.inclusions.specs.declared.Side.{Side}
 use Rattle.inclusions.specs.Words.{All-present, Siding, weight}
-use Rattle.sums.proofs.Places.{rest-all}
+use Rattle.list_words.proofs.Places.{rest-all}
 use Rattle.inclusions.proofs.Weighing.{weighed-both}
 use borrow.Author.Needs.{needs}
 use Rattle.inclusions.proofs.include.Statement.{statement}
@@ -102,8 +102,13 @@ include-side-requires : tie.Need-include-side-requires
 include-side-requires c κs =
     let s = c .before .before .before .before .before .before .before .before .before .before .before in
     let few = s .pre .0 .0 .few-points in
-    rw (rest-all 768 (s .args .ends .now))
-    ((s .pre .0 .1, s .pre .1 .0 .1, present-a s), (siding-a s (c .before .before .before .before .before .hull .result) (c .before .before .before .before .hull2 .result) (c .before .before .before .numbers .result) (c .before .before .before .numbers .ensures) (c .before .before .before .before .before .hull .ensures ∙ all-hull (s .args .ap .now)) (c .before .before .before .before .hull2 .ensures ∙ all-hull (s .args .bp .now)), few, omega (arith, s .pre .1 .1), omega (arith, s .pre .1 .1, few, s .pre .0 .1 .few-points)))
+    let own = c .before .before .before .before .before .hull in
+    let other = c .before .before .before .before .hull2 in
+    let n = c .before .before .before .numbers in
+    rw (rest-all 768 (s .args .ends .now)) (
+      (s .pre .0 .1, s .pre .1 .0 .1, present-a s),
+      (siding-a s (own .result) (other .result) (n .result) (n .ensures) (own .ensures ∙ all-hull (s .args .ap .now)) (other .ensures ∙ all-hull (s .args .bp .now)), few, omega (arith, s .pre .1 .1), omega (arith, s .pre .1 .1, few, s .pre .0 .1 .few-points)),
+    )
 
 slice-aggregate-include-side : tie.Need-slice-aggregate-include-side
 slice-aggregate-include-side c =
@@ -114,7 +119,12 @@ include-side-requires-2 c κs =
     let s = c .before .before .before .before .before .before .before .before .before .before .before .before .before .before .before .before in
     let few = s .pre .0 .1 .few-points in
     let same = c .before .before .before .before .include-side .ensures .1 in
-    ((s .pre .0 .0, s .pre .1 .0 .0, present-b s), (siding-b s (c .before .before .before .before .before .before .before .before .before .before .hull .result) (c .before .before .before .before .before .before .before .before .before .hull2 .result) (c .before .before .before .before .before .before .before .before .numbers .result) (c .before .before .before .before .before .before .before .before .numbers .ensures) (c .before .before .before .before .before .before .before .before .before .before .hull .ensures ∙ all-hull (s .args .ap .now)) (c .before .before .before .before .before .before .before .before .before .hull2 .ensures ∙ all-hull (s .args .bp .now)), few, omega (arith, s .pre .1 .1, same), omega (arith, s .pre .1 .1, same, few, s .pre .0 .0 .few-points)))
+    let own = c .before .before .before .before .before .before .before .before .before .before .hull in
+    let other = c .before .before .before .before .before .before .before .before .before .hull2 in
+    let n = c .before .before .before .before .before .before .before .before .numbers in (
+      (s .pre .0 .0, s .pre .1 .0 .0, present-b s),
+      (siding-b s (own .result) (other .result) (n .result) (n .ensures) (own .ensures ∙ all-hull (s .args .ap .now)) (other .ensures ∙ all-hull (s .args .bp .now)), few, omega (arith, s .pre .1 .1, same), omega (arith, s .pre .1 .1, same, few, s .pre .0 .0 .few-points)),
+    )
 
 same-length : tie.Need-same-length
 same-length c = c .before .include-side2 .ensures .1 ∙ c .before .before .before .before .before .before .include-side .ensures .1

@@ -6,16 +6,16 @@ use native.Mathlib.Omega.{arith}
 use lib.Ieee.{Float, binary64, ofBits}
 use lib.ListN.{length, take, length-replicate}
 use lib.Seq.{length-take-le}
-use Rattle.sums.specs.Lists.{sumOf, upTo}
-use Rattle.sums.proofs.UpTo.{length-upTo}
+use Rattle.list_words.specs.Lists.{sumOf, upTo}
+use Rattle.list_words.proofs.UpTo.{length-upTo}
 use Rattle.solids.specs.Solids.{Solid, solid, vertices, facets, vertex}
 use Rattle.solids.proofs.Admitted.{passed}
-use Rattle.near.specs.declared.Far.{Far}
-use Rattle.near.specs.declared.Thing.the-variants.{Facets}
-use Rattle.near.specs.Things.{box-of, Boxed, Narrowed}
-use Rattle.near.proofs.Inside.{In}
-use Rattle.near.proofs.Listing.{among-all, narrowed-among}
-use Rattle.near.proofs.Things.{in-hull}
+use Rattle.bounds.specs.declared.Far.{Far}
+use Rattle.bounds.specs.declared.Thing.the-variants.{Facets}
+use Rattle.bounds.specs.Words.{box-of, Boxed, Narrowed}
+use Rattle.bounds.proofs.Inside.{In}
+use Rattle.bounds.proofs.Listing.{among-all, narrowed-among}
+use Rattle.bounds.proofs.Things.{in-hull}
 use Rattle.inclusions.specs.Words.{idle, counted, Facing}
 use Rattle.inclusions.proofs.Beside.{sum-near}
 use borrow.Author.Needs.{needs}

@@ -5,11 +5,10 @@ use lib.ListN.{getD}
 use mir.Syntax.{w32}
 use mir.Val.{toZ, ofZ}
 use Rattle.solids.specs.Solids.{solid}
-use Rattle.solids.specs.Table.{facet-S}
+use Rattle.solids.specs.Words.{facet-S}
 use Rattle.solids.proofs.Admitted.{passed}
-use Rattle.near.specs.declared.Thing.the-variants.{Facets}
-use Rattle.near.specs.Boxes.{dot, far}
-use Rattle.near.specs.Things.{box-of}
+use Rattle.bounds.specs.declared.Thing.the-variants.{Facets}
+use Rattle.bounds.specs.Words.{dot, far, box-of}
 use Rattle.inclusions.proofs.Beside.{none-idle}
 use borrow.Author.Needs.{needs}
 use Rattle.inclusions.proofs.s_near.Statement.{statement}

@@ -13,13 +13,13 @@ use lib.Ieee.{Float}
 use mir.Syntax.{w32}
 use mir.Val.{toZ, ofZ}
 use mir.Facts.{toZ-ofZ}
-use Rattle.sums.specs.Lists.{sumOf}
-use Rattle.sums.proofs.Integers.{bnd-add}
-use Rattle.sums.proofs.Sums.{sum-snoc}
+use Rattle.list_words.specs.Lists.{sumOf}
+use Rattle.list_words.proofs.Integers.{bnd-add}
+use Rattle.list_words.proofs.Sums.{sum-snoc}
 use Rattle.points.specs.declared.Point.{Point}
 use Rattle.crossings.proofs.Fits.{fits-sum}
 use Rattle.solids.specs.Solids.{solid, facet}
-use Rattle.solids.specs.Table.{facet-S}
+use Rattle.solids.specs.Words.{facet-S}
 use borrow.Author.Needs.{needs}
 use Rattle.inclusions.proofs.sum_near.Statement.{statement}
 use Rattle.inclusions.proofs.sum_near.Tie as tie

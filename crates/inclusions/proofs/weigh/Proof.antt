@@ -6,9 +6,9 @@ use native.Mathlib.Omega.{arith}
 use native.Mathlib.Nat.{le-antisymm}
 use lib.IntN.{ℤ, _+ℤ_, _*ℤ_}
 use lib.ListN.{length, length-set}
-use Rattle.sums.proofs.Widths.{back-16, back-32}
+use Rattle.list_words.proofs.Widths.{back-16, back-32}
 use Rattle.solids.specs.Solids.{Solid, solid}
-use Rattle.solids.specs.Table.{contained}
+use Rattle.solids.specs.Words.{contained}
 use Rattle.inclusions.specs.Words.{weight, Weighed}
 use Rattle.inclusions.proofs.Weighing.{weighed-next}
 use borrow.Author.Needs.{needs}

@@ -6,15 +6,15 @@ use native.Mathlib.Omega.{arith}
 use native.Mathlib.Nat.{le-antisymm}
 use lib.ListN.{length, take}
 use lib.Seq.{length-take-le}
-use Rattle.sums.specs.Lists.{sumOf}
+use Rattle.list_words.specs.Lists.{sumOf}
 use Rattle.solids.specs.Solids.{Solid, solid, vertex}
 use Rattle.solids.proofs.Admitted.{passed}
-use Rattle.near.specs.declared.Bounds.{Bounds}
-use Rattle.near.specs.declared.Far.{Far}
-use Rattle.near.specs.Things.{hull, box-at, Narrowed}
-use Rattle.near.proofs.Inside.{In}
-use Rattle.near.proofs.Listing.{narrowed-among, narrowed-own}
-use Rattle.near.proofs.Things.{in-hull}
+use Rattle.bounds.specs.declared.Bounds.{Bounds}
+use Rattle.bounds.specs.declared.Far.{Far}
+use Rattle.bounds.specs.Words.{hull, box-at, Narrowed}
+use Rattle.bounds.proofs.Inside.{In}
+use Rattle.bounds.proofs.Listing.{narrowed-among, narrowed-own}
+use Rattle.bounds.proofs.Things.{in-hull}
 use Rattle.inclusions.specs.Words.{idle, counted, Facing, Weighed}
 use Rattle.inclusions.proofs.Beside.{sum-near}
 use Rattle.inclusions.proofs.Weighing.{weighed-none}

@@ -3,10 +3,10 @@ use mathlib.Core.Path.{refl}
 use Prim.Native.Nat.{_≤_}
 use native.Mathlib.Omega.{arith}
 use lib.IntN.{natAbs, _+ℤ_, _*ℤ_}
-use Rattle.sums.proofs.Integers.{bnd-add}
-use Rattle.sums.proofs.Widths.{back-16, back-32, fits-16}
+use Rattle.list_words.proofs.Integers.{bnd-add}
+use Rattle.list_words.proofs.Widths.{back-16, back-32, fits-16}
 use Rattle.crossings.proofs.Fits.{fits}
-use Rattle.sums.proofs.Integers.{scaled}
+use Rattle.list_words.proofs.Integers.{scaled}
 use Rattle.inclusions.proofs.weighed.Statement.{statement}
 use Rattle.inclusions.proofs.weighed.Tie as tie
 

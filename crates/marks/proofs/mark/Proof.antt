@@ -7,7 +7,7 @@ use lib.Bits.{bitOr}
 use lib.Dec.{eqb}
 use lib.ListN.{getD, set}
 use lib.Pow.{shl-exact}
-use Rattle.marks.specs.Marks.{marked}
+use Rattle.marks.specs.Words.{marked}
 use Rattle.marks.proofs.Words.{marked-set}
 use borrow.Author.Needs.{needs}
 use Rattle.marks.proofs.mark.Statement.{statement}

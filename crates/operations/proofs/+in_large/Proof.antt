@@ -7,9 +7,9 @@ use borrow.Fn.Kinds.{In}
 use borrow.Fn.PlainCycle.{Measures, is, falls, and}
 use Rattle.solids.specs.Solids.{Solid, solid}
 use Rattle.results.specs.Operation.{Lent, lists}
-use Rattle.making.specs.Attempted.{Attempted}
-use Rattle.making.specs.declared.Tried.{Tried}
-use Rattle.making.specs.declared.Tried.the-variants.{Full}
+use Rattle.result_lists.specs.Words.{Attempted}
+use Rattle.result_lists.specs.declared.Tried.{Tried}
+use Rattle.result_lists.specs.declared.Tried.the-variants.{Full}
 use Rattle.operations.proofs.in_large.Reads as in-large
 use Rattle.operations.proofs.in_large.Kinds as in-large-kinds
 use Rattle.operations.proofs.+in_large.Lts-in_large as in-large-lts
@@ -86,4 +86,7 @@ in-large-returns-2 : (t : ℕ) → in-large-lts.Need-returns-2 (with-room-reads.
 in-large-returns-2 t c = absurd (never t (c .before .before .before .before .before .before .before .before .before .before .before .before .before .before .before .before .before .before) (c .before .before .before .before .before .before .before .before .before .before .enum-told .given .1))
 
 pub +in-large-spec : {M : Type 1} → statement M
-+in-large-spec = close μ-in-large λ t. in-large-lts.spec (with-room-reads.Asked, with-room-reads.Learnt, in-large-below t, in-large.Post) (in-large-at t) in-large.Post (in-large-with-room-requires t) (in-large-enum-known-tried t) (in-large-enum-told t) (in-large-in-large-requires t) (in-large-same-length t) (in-large-same-length-2 t) (in-large-same-length-3 t) (in-large-returns t) (in-large-same-length-4 t) (in-large-same-length-5 t) (in-large-same-length-6 t) (in-large-returns-2 t)
++in-large-spec = close μ-in-large λ t. in-large-lts.spec (with-room-reads.Asked, with-room-reads.Learnt, in-large-below t, in-large.Post)
+    (in-large-at t) in-large.Post (in-large-with-room-requires t) (in-large-enum-known-tried t) (in-large-enum-told t) (in-large-in-large-requires t)
+    (in-large-same-length t) (in-large-same-length-2 t) (in-large-same-length-3 t) (in-large-returns t) (in-large-same-length-4 t)
+    (in-large-same-length-5 t) (in-large-same-length-6 t) (in-large-returns-2 t)

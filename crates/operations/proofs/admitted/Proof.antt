@@ -6,7 +6,7 @@ use Prim.Native.Nat.{ℕ}
 use lib.ListN.{length-replicate}
 use Rattle.solids.specs.Solids.{solid}
 use Rattle.results.specs.Operation.{Lent, lists}
-use Rattle.making.specs.Attempted.{Operated, Attempted}
+use Rattle.result_lists.specs.Words.{Operated, Attempted}
 use Rattle.operations.proofs.admitted.Statement.{statement}
 use Rattle.operations.proofs.admitted.Tie as tie
 

@@ -32,7 +32,15 @@ same-length-3 : tie.Need-same-length-3
 same-length-3 c = search needs
 
 returns : tie.Need-returns
-returns c = let s = c .before .before .before .before .before .before .before .before .before .before .before .before .before .before .before .before .before .before .before .before .before in let a = solid (s .args .ap .now) (s .args .ac .now) in let b = solid (s .args .bp .now) (s .args .bc .now) in let l = lists (s .args .points .now) (s .args .corners .now) (s .args .origins .now) in c .before .before .before .before .before .before .checked .ensures ∙ sym (by-code a b l _ (s .args .code) (sym (c .before .before .before .before .before .before .before .before .before .before .before .before .before .of-code .ensures) ∙ c .before .before .before .before .before .before .before .before .before .before .before .op .given .1))
+returns c =
+    let s =
+    c .before .before .before .before .before .before .before .before .before .before .before .before .before .before .before .before .before .before .before .before .before in
+    let a = solid (s .args .ap .now) (s .args .ac .now) in
+    let b = solid (s .args .bp .now) (s .args .bc .now) in
+    let l = lists (s .args .points .now) (s .args .corners .now) (s .args .origins .now) in
+    c .before .before .before .before .before .before .checked .ensures
+    ∙ sym
+    (by-code a b l _ (s .args .code) (sym (c .before .before .before .before .before .before .before .before .before .before .before .before .before .of-code .ensures) ∙ c .before .before .before .before .before .before .before .before .before .before .before .op .given .1))
 
 returns-2 : tie.Need-returns-2
 unfolding operation

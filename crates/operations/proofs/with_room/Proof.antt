@@ -5,7 +5,7 @@ use borrow.Author.Needs.{needs}
 use lib.ListN.{length}
 use Rattle.solids.specs.Solids.{solid}
 use Rattle.results.specs.Operation.{lists}
-use Rattle.making.specs.Attempted.{Attempted}
+use Rattle.result_lists.specs.Words.{Attempted}
 use Rattle.operations.proofs.with_room.Statement.{statement}
 use Rattle.operations.proofs.with_room.Tie as tie
 

@@ -6,7 +6,7 @@ use native.Mathlib.Omega.{arith}
 use native.Mathlib.Nat.{add-zero}
 use lib.ListN.{length, getD, length-append}
 use Rattle.solids.specs.Solids.{Half}
-use Rattle.solids.specs.Table.{Tallied, counted}
+use Rattle.solids.specs.Words.{Tallied, counted}
 use Rattle.solids.proofs.Tally.{tallied-next, tallied-few, counted-next, counted-length, low-at, low-first}
 use borrow.Author.Needs.{needs}
 use Rattle.tally.proofs.count_facet.Statement.{statement}

@@ -7,7 +7,7 @@ use mathlib.Core.List.{[]}
 use borrow.Author.Tests.{eq-eqb, ne-eqb}
 use Rattle.solids.specs.Solids.{solid, half-edges}
 use Rattle.solids.specs.Admission as Ad
-use Rattle.solids.specs.Table.{place}
+use Rattle.solids.specs.Words.{place}
 use borrow.Author.Needs.{needs}
 use Rattle.tally.proofs.differ.Statement.{statement}
 use Rattle.tally.proofs.differ.Tie as tie

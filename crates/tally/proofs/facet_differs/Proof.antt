@@ -3,7 +3,7 @@ use mathlib.Core.Path.{sym}
 use mathlib.Core.Bool.{or-false}
 use native.Mathlib.Omega.{arith}
 use native.Mathlib.Nat.{add-zero}
-use Rattle.sums.specs.Lists.{any}
+use Rattle.list_words.specs.Lists.{any}
 use Rattle.solids.proofs.Tally.{low-at, low-first}
 use borrow.Author.Needs.{needs}
 use Rattle.tally.proofs.facet_differs.Statement.{statement}

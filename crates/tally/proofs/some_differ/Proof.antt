@@ -6,8 +6,8 @@ use Prim.Native.Nat.{ℕ, _≤_, _-_, _/_}
 use native.Mathlib.Omega.{arith}
 use native.Mathlib.Nat.{le-antisymm}
 use lib.ListN.{length}
-use Rattle.sums.specs.Lists.{any, upTo}
-use Rattle.sums.proofs.Searches.{any-upTo-next, any-upTo-found}
+use Rattle.list_words.specs.Lists.{any, upTo}
+use Rattle.list_words.proofs.Searches.{any-upTo-next, any-upTo-found}
 use Rattle.solids.specs.Solids.{solid, half-edges, facet-half-edges}
 use Rattle.solids.specs.Admission.{differ}
 use borrow.Author.Needs.{needs}

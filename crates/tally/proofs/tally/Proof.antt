@@ -6,8 +6,8 @@ use Prim.Native.Nat.{_≤_, _/_, _-_}
 use native.Mathlib.Omega.{arith}
 use lib.ListN.{length}
 use mathlib.Core.List.{flatMap}
-use Rattle.sums.specs.Lists.{upTo}
-use Rattle.solids.specs.Table.{Tallied, counted}
+use Rattle.list_words.specs.Lists.{upTo}
+use Rattle.solids.specs.Words.{Tallied, counted}
 use borrow.Author.Needs.{needs}
 use Rattle.tally.proofs.tally.Statement.{statement}
 use Rattle.tally.proofs.tally.Tie as tie

@@ -6,14 +6,14 @@ use native.Mathlib.Numerals.{add-one}
 use native.Mathlib.Nat.{le-antisymm}
 use native.Mathlib.Omega.{arith}
 use lib.ListN.{length, length-append}
-use Rattle.sums.specs.Lists.{upTo}
-use Rattle.sums.proofs.UpTo.{flat-upTo-suc}
-use Rattle.joining.proofs.Flat.{two-each}
-use Rattle.tables.specs.Table.{boundary, fan-of, triangles}
-use Rattle.tables.proofs.Bound.{boundary-short}
-use Rattle.kept.specs.Kept.{rows, dense}
-use Rattle.kept.proofs.Dense.{good-dense}
-use Rattle.kept.proofs.Counted.{fan-short}
+use Rattle.list_words.specs.Lists.{upTo}
+use Rattle.list_words.proofs.UpTo.{flat-upTo-suc}
+use Rattle.joined_ends.proofs.Flat.{two-each}
+use Rattle.vertex_table.specs.Words.{boundary, fan-of, triangles}
+use Rattle.vertex_table.proofs.Bound.{boundary-short}
+use Rattle.kept_lists.specs.Words.{rows, dense}
+use Rattle.kept_lists.proofs.Dense.{good-dense}
+use Rattle.kept_lists.proofs.Counted.{fan-short}
 use Rattle.triangle_count.proofs.count_triangles.Statement.{statement}
 use Rattle.triangle_count.proofs.count_triangles.Tie as tie
 

@@ -4,12 +4,12 @@ use mathlib.Core.List.{flatMap}
 use Prim.Native.Nat.{_+_, _*_}
 use native.Mathlib.Omega.{arith}
 use lib.ListN.{length}
-use Rattle.sums.specs.Lists.{upTo}
-use Rattle.tables.specs.Table as T
-use Rattle.counting.specs.Counting.{tell}
-use Rattle.counting.proofs.Telling.{near-then}
-use Rattle.kept.specs.Kept.{Rows, rows, dense, line-ends, line-many, side-ends}
-use Rattle.kept.proofs.Counted.{facet-count}
+use Rattle.list_words.specs.Lists.{upTo}
+use Rattle.vertex_table.specs.Words as T
+use Rattle.fan_counts.specs.Words.{tell}
+use Rattle.fan_counts.proofs.Telling.{near-then}
+use Rattle.kept_lists.specs.Words.{Rows, rows, dense, line-ends, line-many, side-ends}
+use Rattle.kept_lists.proofs.Counted.{facet-count}
 use Rattle.triangle_count.proofs.fan_size.Statement.{statement}
 use Rattle.triangle_count.proofs.fan_size.Tie as tie
 

@@ -6,15 +6,15 @@ use Prim.Native.Nat.{ℕ, suc, _+_, _-_, _*_, _≤_}
 use native.Mathlib.Omega.{arith}
 use lib.IntN.{natAbs}
 use lib.ListN.{length}
-use Rattle.sums.specs.Lists.{upTo}
+use Rattle.list_words.specs.Lists.{upTo}
 use Rattle.results.specs.declared.End.{End}
-use Rattle.tables.specs.Table.{flip}
-use Rattle.counting.specs.declared.Tally.{Tally}
-use Rattle.counting.specs.Counting.{told, tell, Near}
-use Rattle.counting.proofs.Telling.{near-self, near-then, near-less, near-one}
-use Rattle.kept.specs.Kept.{Rows, rows, vertex, corner-at, line-end, line-many}
-use Rattle.kept.proofs.Gathered.{line-room, corner-in, row-few}
-use Rattle.kept.proofs.Counted.{tell-next, tell-none, crossing-ends, line-told, line-skip, flip-small, line-small}
+use Rattle.vertex_table.specs.Words.{flip}
+use Rattle.fan_counts.specs.declared.Tally.{Tally}
+use Rattle.fan_counts.specs.Words.{told, tell, Near}
+use Rattle.fan_counts.proofs.Telling.{near-self, near-then, near-less, near-one}
+use Rattle.kept_lists.specs.Words.{Rows, rows, vertex, corner-at, line-end, line-many}
+use Rattle.kept_lists.proofs.Gathered.{line-room, corner-in, row-few}
+use Rattle.kept_lists.proofs.Counted.{tell-next, tell-none, crossing-ends, line-told, line-skip, flip-small, line-small}
 use Rattle.triangle_count.proofs.tell_line.Statement.{statement}
 use Rattle.triangle_count.proofs.tell_line.Tie as tie
 
@@ -123,7 +123,11 @@ loop-again c = let s = c .before .before .before .before .before .before .before
     let q : (l .i + 1) - 256 * row ≡ suc d = omega (arith, l .inv .0) in
     let e = c .before .before .line-end in
     let step : c .before .tell3 .result ≡ tell r₀ (flatMap (F s) (upTo (suc d))) = c .before .tell3 .ensures ∙ ap (told (l .r)) (e .ensures) ∙ ap (λ (t : Tally). told t (line-end (W s) (a .halves .now) (a .plan .sizes) (a .h) d)) (l .inv .2) ∙ sym (tell-next (F s) r₀ d) in
-    let skip = line-skip (a .inc .now) (a .num .now) (W s) (a .halves .now) (a .plan .sizes) (a .h) (s .pre .0 .halves) (s .pre .1) (s .pre .2) _ _ (c .before .before .before .before .before .before .before .before .before .before .before .line-row .ensures) (c .before .before .before .before .before .before .before .before .before .before .line-many .ensures) r₀ (l .i + 1) (c .next .result) (omega (arith, l .inv .0)) (c .next .ensures) in
+    let skip =
+    line-skip (a .inc .now) (a .num .now) (W s) (a .halves .now) (a .plan .sizes) (a .h) (s .pre .0 .halves) (s .pre .1) (s .pre .2) _ _
+    (c .before .before .before .before .before .before .before .before .before .before .before .line-row .ensures)
+    (c .before .before .before .before .before .before .before .before .before .before .line-many .ensures) r₀ (l .i + 1) (c .next .result)
+    (omega (arith, l .inv .0)) (c .next .ensures) in
     let near = near-one (e .result) (l .inv .3) (c .before .tell3 .ensures) (line-end-small (c .before .before)) in
     (omega (arith, c .next .ensures .low, l .inv .0), c .next .ensures .high, step ∙ sym (skip ∙ ap (λ n. tell r₀ (flatMap (F s) (upTo n))) q), near-less near (omega (arith, c .next .ensures .low, l .inv .0)))
 
@@ -135,8 +139,14 @@ returns c = let l = c .before in
     let e : l .loop .i - 256 * c .before .before .before .before .before .before .before .before .line-row .result ≡ line-many (a .plan .sizes) (a .h) = omega (arith, l .loop .inv .0, l .loop .inv .1, c .loop-test .left, c .before .before .before .before .before .before .before .line-many .ensures) in
     let one = c .before .before .before .before .tell .ensures ∙ ap (told (a .t)) (c .before .before .before .before .before .before .corner .ensures) in
     let begin : r₀ ≡ told (told (a .t) (flip true (vertex (a .inc .now) (a .num .now) (corner-at (a .halves .now) (a .plan .sizes) (a .h) 1)))) (vertex (a .inc .now) (a .num .now) (corner-at (a .halves .now) (a .plan .sizes) (a .h) 2)) =
-    c .before .before .before .tell2 .ensures ∙ (λ j. told (one j) (c .before .before .before .before .before .corner2 .ensures j)) in
-    (l .loop .inv .2 ∙ ap (λ n. tell r₀ (flatMap (F s) (upTo n))) e ∙ ap (λ (t : Tally). tell t (flatMap (F s) (upTo (line-many (a .plan .sizes) (a .h))))) begin ∙ sym (line-told (a .inc .now) (a .num .now) (W s) (a .halves .now) (a .plan .sizes) (a .h) (a .t) (line-many (a .plan .sizes) (a .h))), near-less (near-then (two-near (c .before .before .before)) (l .loop .inv .3)) (omega (arith, e, c .before .before .before .before .before .before .before .line-many .ensures, room (c .before .before .before .before .before .before .before))))
+    c .before .before .before .tell2 .ensures ∙ (λ j. told (one j) (c .before .before .before .before .before .corner2 .ensures j)) in (
+      l .loop .inv .2
+          ∙ ap (λ n. tell r₀ (flatMap (F s) (upTo n))) e
+          ∙ ap (λ (t : Tally). tell t (flatMap (F s) (upTo (line-many (a .plan .sizes) (a .h))))) begin
+          ∙ sym (line-told (a .inc .now) (a .num .now) (W s) (a .halves .now) (a .plan .sizes) (a .h) (a .t) (line-many (a .plan .sizes) (a .h))),
+      near-less (near-then (two-near (c .before .before .before)) (l .loop .inv .3))
+          (omega (arith, e, c .before .before .before .before .before .before .before .line-many .ensures, room (c .before .before .before .before .before .before .before))),
+    )
 
 pub tell-line-spec : {M : Type 1} → statement M
 tell-line-spec =

@@ -4,12 +4,12 @@ use mathlib.Core.Bool.{not}
 use Prim.Native.Nat.{ℕ, _+_, _*_, _≤_}
 use native.Mathlib.Omega.{arith}
 use lib.IntN.{natAbs}
-use Rattle.layouts.specs.Halves.{edge-at, against}
-use Rattle.counting.specs.Counting.{told, Near}
-use Rattle.counting.proofs.Telling.{near-self, near-one}
-use Rattle.kept.specs.Kept.{Rows, rows, crossing, a-end, b-end, pair-ends}
-use Rattle.kept.proofs.Dense.{crossing-small}
-use Rattle.kept.proofs.Counted.{flip-small}
+use Rattle.layouts.specs.Words.{edge-at, against}
+use Rattle.fan_counts.specs.Words.{told, Near}
+use Rattle.fan_counts.proofs.Telling.{near-self, near-one}
+use Rattle.kept_lists.specs.Words.{Rows, rows, crossing, a-end, b-end, pair-ends}
+use Rattle.kept_lists.proofs.Dense.{crossing-small}
+use Rattle.kept_lists.proofs.Counted.{flip-small}
 use Rattle.triangle_count.proofs.tell_pair.Statement.{statement}
 use Rattle.triangle_count.proofs.tell_pair.Tie as tie
 

@@ -3,15 +3,15 @@ use mathlib.Core.Path.{_≡_, sym, ap, _∙_}
 use mathlib.Core.List.{List, flatMap}
 use Prim.Native.Nat.{ℕ, suc, _+_, _-_, _*_, _<_, _≤_}
 use native.Mathlib.Omega.{arith}
-use Rattle.sums.specs.Lists.{upTo}
+use Rattle.list_words.specs.Lists.{upTo}
 use Rattle.results.specs.declared.End.{End}
-use Rattle.tables.specs.Table.{others}
-use Rattle.counting.specs.declared.Tally.{Tally}
-use Rattle.counting.specs.Counting.{tell, Near}
-use Rattle.counting.proofs.Telling.{near-self, near-then, near-less}
-use Rattle.kept.specs.Kept.{rows, side-ends, facet-row}
-use Rattle.kept.proofs.Skips.{others-few}
-use Rattle.kept.proofs.Counted.{tell-next, tell-none, row-skip-told}
+use Rattle.vertex_table.specs.Words.{others}
+use Rattle.fan_counts.specs.declared.Tally.{Tally}
+use Rattle.fan_counts.specs.Words.{tell, Near}
+use Rattle.fan_counts.proofs.Telling.{near-self, near-then, near-less}
+use Rattle.kept_lists.specs.Words.{rows, side-ends, facet-row}
+use Rattle.kept_lists.proofs.Skips.{others-few}
+use Rattle.kept_lists.proofs.Counted.{tell-next, tell-none, row-skip-told}
 use borrow.Author.Needs.{needs}
 use Rattle.triangle_count.proofs.tell_row.Statement.{statement}
 use Rattle.triangle_count.proofs.tell_row.Tie as tie

@@ -1,5 +1,5 @@
 -- `agree` meets its contract, case by case.
-use Rattle.sums.proofs.Tests.{never}
+use Rattle.list_words.proofs.Tests.{never}
 use mathlib.Core.Bool.{false}
 use mathlib.Core.Path.{sym, _∙_, refl}
 use Rattle.vertex_edge.proofs.Apart.{agree-not}

@@ -3,7 +3,7 @@ use Prim.Native.Nat.{_+_, _*_}
 use native.Mathlib.Omega.{arith}
 use native.Mathlib.Nat.{add-zero}
 use lib.Ieee.{nan}
-use Rattle.sums.proofs.Sums.{getD-within}
+use Rattle.list_words.proofs.Sums.{getD-within}
 use Rattle.points.specs.Points.{zero-number}
 use borrow.Author.Needs.{needs}
 use Rattle.vertices.proofs.vertex.Statement.{statement}

@@ -1,5 +1,5 @@
 -- `coordinates` meets its contract: i counts up to the length that was read.
-use Rattle.case_words.specs.Reading.{Sound}
+use Rattle.case_words.specs.Words.{Sound}
 use Prim.Native.Nat.{_≤_, _-_}
 use borrow.Author.Needs.{needs}
 use Rattle.case_parts.proofs.parts.coordinates.Statement.{statement}

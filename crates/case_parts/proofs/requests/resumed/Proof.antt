@@ -1,5 +1,5 @@
 -- `resumed` meets its contract: each word passed leaves fewer bytes.
-use Rattle.case_words.specs.Reading.{Sound}
+use Rattle.case_words.specs.Words.{Sound}
 use Prim.Native.Nat.{_+_}
 use borrow.Author.Needs.{needs}
 use Rattle.case_parts.proofs.requests.resumed.Statement.{statement}

@@ -1,5 +1,5 @@
 -- `at_word` meets its contract: fewer bytes are left after each turn.
-use Rattle.case_words.specs.Reading.{Sound}
+use Rattle.case_words.specs.Words.{Sound}
 use Prim.Native.Nat.{_≤_}
 use borrow.Author.Needs.{needs}
 use Rattle.case_words.proofs.input.at_word.Statement.{statement}

@@ -1,5 +1,5 @@
 -- `spelled` meets its contract: each letter costs one of the bytes that are left.
-use Rattle.case_words.specs.Reading.{Sound}
+use Rattle.case_words.specs.Words.{Sound}
 use Prim.Native.Nat.{_+_, _≤_}
 use borrow.Author.Needs.{needs}
 use Rattle.case_words.proofs.input.spelled.Statement.{statement}

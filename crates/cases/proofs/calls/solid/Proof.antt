@@ -2,7 +2,7 @@
 use mathlib.Core.Path.{sym}
 use lib.Seq.{length-take-le}
 use borrow.Author.Needs.{needs}
-use Rattle.printing.proofs.Texts.{within}
+use Rattle.solid_printing.proofs.Texts.{within}
 use Rattle.cases.proofs.calls.solid.Statement.{statement}
 use Rattle.cases.proofs.calls.solid.Tie as tie
 

@@ -6,7 +6,7 @@ use mir.Facts.{toZ-ofZ}
 use mir.Val.{toZ, ofZ}
 use mir.Syntax.{w32}
 use borrow.Author.Needs.{needs}
-use Rattle.sums.proofs.Integers.{bnd-neg}
+use Rattle.list_words.proofs.Integers.{bnd-neg}
 use Rattle.crossings.proofs.Fits.{fits-neg}
 use Rattle.crossings.proofs.Crossing.against.Statement.{statement}
 use Rattle.crossings.proofs.Crossing.against.Tie as tie

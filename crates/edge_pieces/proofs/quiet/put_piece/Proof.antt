@@ -1,7 +1,7 @@
 -- `put_piece` meets its contract.
 use native.Mathlib.Omega.{arith}
 use lib.ListN.{length-set}
-use Rattle.kept.proofs.Single.{behind-two}
+use Rattle.kept_lists.proofs.Single.{behind-two}
 use borrow.Author.Needs.{needs}
 use Rattle.edge_pieces.proofs.quiet.put_piece.Statement.{statement}
 use Rattle.edge_pieces.proofs.quiet.put_piece.Tie as tie

@@ -7,10 +7,10 @@ use lib.IntN.{pos, negsuc}
 use lib.ListN.{length}
 use Rattle.solids.specs.Solids.{Half}
 use Rattle.results.specs.Pieces.{pieces}
-use Rattle.joining.specs.Flat.{flat, Behind}
-use Rattle.joining.proofs.Flat.{behind-none}
+use Rattle.joined_ends.specs.Words.{flat, Behind}
+use Rattle.joined_ends.proofs.Flat.{behind-none}
 use Rattle.layouts.proofs.Packing.{is}
-use Rattle.kept.proofs.Single.{no-piece, one-piece, piece-back}
+use Rattle.kept_lists.proofs.Single.{no-piece, one-piece, piece-back}
 use borrow.Author.Needs.{needs}
 use Rattle.edge_pieces.proofs.quiet.two_ends.Statement.{statement}
 use Rattle.edge_pieces.proofs.quiet.two_ends.Tie as tie

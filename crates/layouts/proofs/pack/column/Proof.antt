@@ -1,7 +1,7 @@
 -- `column` meets its contract.
 use borrow.Author.Needs.{needs}
 use mathlib.Core.Path.{refl}
-use Rattle.layouts.specs.Packed.{column}
+use Rattle.layouts.specs.Words.{column}
 use Rattle.layouts.proofs.pack.column.Statement.{statement}
 use Rattle.layouts.proofs.pack.column.Tie as tie
 

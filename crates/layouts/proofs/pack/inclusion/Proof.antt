@@ -2,7 +2,7 @@
 use mathlib.Core.Path.{_≡_, sym, ap}
 use Prim.Native.Nat.{_%_}
 use native.Mathlib.Omega.{arith}
-use Rattle.layouts.specs.Packed.{inclusion}
+use Rattle.layouts.specs.Words.{inclusion}
 use Rattle.layouts.proofs.Packing.{read}
 use Rattle.layouts.proofs.pack.inclusion.Statement.{statement}
 use Rattle.layouts.proofs.pack.inclusion.Tie as tie

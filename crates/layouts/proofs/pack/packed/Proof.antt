@@ -2,7 +2,7 @@
 use borrow.Author.Needs.{needs}
 use mathlib.Core.Path.{ap}
 use native.Mathlib.Omega.{arith}
-use Rattle.layouts.specs.Packed.{code, packed}
+use Rattle.layouts.specs.Words.{code, packed}
 use Rattle.layouts.proofs.Packing.{is, left-over}
 use Rattle.layouts.proofs.pack.packed.Statement.{statement}
 use Rattle.layouts.proofs.pack.packed.Tie as tie

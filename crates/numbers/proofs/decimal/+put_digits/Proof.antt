@@ -7,7 +7,7 @@ use lib.ListN.{length, length-set}
 use borrow.Author.Needs.{needs}
 use borrow.Fn.Kinds.{In}
 use borrow.Fn.PlainCycle.{Measures, is, falls, and}
-use Rattle.lists.proofs.Stores.{sets-append}
+use Rattle.list_stores.proofs.Stores.{sets-append}
 use Rattle.numbers.specs.Digits.{digits}
 use Rattle.numbers.proofs.Digits.{one-digit, more-digits, length-more}
 use Rattle.numbers.proofs.decimal.digit.Reads as digit-reads

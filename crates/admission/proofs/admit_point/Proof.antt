@@ -1,0 +1,29 @@
+-- `admit_point` meets its contract: 3 before 4.
+use mathlib.Core.Path.{sym, _∙_}
+use Rattle.solids.proofs.Orders.{point-first-3, point-then-4, point-else-accepted}
+use borrow.Author.Needs.{needs}
+use Rattle.admission.proofs.admit_point.Statement.{statement}
+use Rattle.admission.proofs.admit_point.Tie as tie
+
+bad-point-requires : tie.Need-bad-point-requires
+bad-point-requires c κs = search needs
+
+returns : tie.Need-returns
+returns c = sym (point-first-3 (c .before .before .args .v) (sym (c .before .bad-point .ensures) ∙ c .if1 .taken))
+
+bad-point-requires-2 : tie.Need-bad-point-requires-2
+bad-point-requires-2 c κs = search needs
+
+returns-2 : tie.Need-returns-2
+returns-2 c =
+    let d = c .before .before in
+    sym (point-then-4 (d .before .before .args .v) (sym (d .before .bad-point .ensures) ∙ d .if1 .left) (sym (c .before .bad-point2 .ensures) ∙ c .if2 .taken))
+
+returns-3 : tie.Need-returns-3
+returns-3 c =
+    let d = c .before .before in
+    sym (point-else-accepted (d .before .before .args .v) (sym (d .before .bad-point .ensures) ∙ d .if1 .left) (sym (c .before .bad-point2 .ensures) ∙ c .if2 .left))
+
+pub admit-point-spec : {M : Type 1} → statement M
+admit-point-spec =
+    tie.close (tie.spec bad-point-requires returns bad-point-requires-2 returns-2 returns-3)

@@ -1,3 +1,0 @@
-pub mod Rank
-pub mod Following
-pub mod Laid

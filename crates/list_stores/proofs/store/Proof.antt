@@ -1,0 +1,24 @@
+-- `store` meets its contract: a store beyond the end leaves the list.
+use mathlib.Core.Path.{sym}
+use borrow.Author.Needs.{needs}
+use lib.Seq.{set-out}
+use Rattle.list_stores.proofs.store.Statement.{statement}
+use Rattle.list_stores.proofs.store.Tie as tie
+
+mul-list : tie.Need-mul-list
+mul-list c = search needs
+
+slice-write-list : tie.Need-slice-write-list
+slice-write-list c = search needs
+
+same-length : tie.Need-same-length
+same-length c = search needs
+
+returns : tie.Need-returns
+returns c = search needs
+
+returns-2 : tie.Need-returns-2
+returns-2 c = sym (set-out (c .before .args .list .now) (c .before .args .at) (c .before .args .v) (c .if1 .left))
+
+pub store-spec : {M : Type 1} → statement M
+store-spec = tie.close (tie.spec mul-list slice-write-list same-length returns returns-2)
