@@ -12,7 +12,7 @@
 # name are one row of the table. A call must come back to its caller, and must not run the caller inside it.
 BEGIN {
     part("admission", "admission::")
-    part("making ready: edges and half-edges", "half_edges::sides::ready")
+    part("making ready: edges and half-edges", "ready_solids::ready")
     part("clearing the lists of crossings", "")
     part("crossings found, with boxes", "crossings_found::find_kind")
     part("inclusions of vertices", "inclusions::include_side")

@@ -47,7 +47,7 @@ pub fn box_of(thing: Thing, points: &[f64], corners: &[u32], ends: &[u32], i: us
 {
     match thing {
         Thing::Edges => bounds::round_edge(edges::edge_at(points, ends, corners, i)),
-        Thing::Facets => bounds::round_facet(containment::facet(points, corners, i)),
+        Thing::Facets => bounds::round_facet(facets::facet(points, corners, i)),
     }
 }
 

@@ -1,4 +1,4 @@
-// How often a solid contains a point, with the solid as A and as B, in code; and a facet's corners, from the two lists of a solid.
+// How often a solid contains a point, with the solid as A and as B, in code.
 use crossings::Facet;
 use points::Axis;
 use points::Point;
@@ -16,31 +16,6 @@ ghost use Rattle.solids.specs.Admission as Ad;
 ghost use Rattle.solids.specs.Refusals as Re;
 ghost use Rattle.solids.specs.Containment as Co;
 ghost use Rattle.solids.specs.Words as Sw;
-
-fn corner(points: &[f64], corners: &[u32], i: usize) -> Point
-    requires { ⌜ (i < length (now corners)) × Sw.Named (now points) (now corners) ⌝ }
-    ensures { λ r. ⌜ r ≡ So.vertex (So.solid (now (points .entry)) []) (getD (now (corners .entry)) i 0) ⌝ }
-{
-    let number = corners[i] as usize;
-    vertices::vertex(points, number)
-}
-
-pub fn facet(points: &[f64], corners: &[u32], f: usize) -> Facet
-    requires { ⌜ (f < length (now corners) / 3) × Sw.Named (now points) (now corners) ⌝ }
-    ensures { λ r. ⌜ r ≡ So.facet (So.lent (points .entry) (corners .entry)) f ⌝ }
-{
-    let p = corners[3 * f];
-    let q = corners[3 * f + 1];
-    let r = corners[3 * f + 2];
-    Facet {
-        p: corner(points, corners, 3 * f),
-        q: corner(points, corners, 3 * f + 1),
-        r: corner(points, corners, 3 * f + 2),
-        pq: p < q,
-        qr: q < r,
-        rp: r < p,
-    }
-}
 
 pub fn facet_s(as_b: bool, v: Point, f: Facet) -> i32
     ensures { λ r. ⌜ r ≡ Sw.facet-S «as_b» v f ⌝ }
@@ -62,7 +37,7 @@ fn sum_s(as_b: bool, v: Point, points: &[f64], corners: &[u32]) -> i32
     let mut sum: i32 = 0;
     let mut f = 0;
     while f < corners.len() / 3 {
-        let of_facet = facet(points, corners, f);
+        let of_facet = facets::facet(points, corners, f);
         sum = sum + facet_s(as_b, v, of_facet);
         f += 1;
     }

@@ -41,7 +41,7 @@ pub fn row_at(ap: &[f64], ac: &[u32], ae: &[u32], edges: usize, r: usize) -> Row
     if r < edges {
         Row::OfEdge(edges::edge_at(ap, ae, ac, r))
     } else {
-        Row::OfFacet(containment::facet(ap, ac, r - edges))
+        Row::OfFacet(facets::facet(ap, ac, r - edges))
     }
 }
 
@@ -51,7 +51,7 @@ fn count_of(row: Row, bp: &[f64], bc: &[u32], be: &[u32], column: usize) -> i32
     ensures small { λ r. ⌜ natAbs r ≤ 2 ⌝ }
 {
     match row {
-        Row::OfEdge(e) => crossing_counts::ef(e, containment::facet(bp, bc, column)),
+        Row::OfEdge(e) => crossing_counts::ef(e, facets::facet(bp, bc, column)),
         Row::OfFacet(f) => crossing_counts::fe(f, edges::edge_at(bp, be, bc, column)),
     }
 }

@@ -5,86 +5,10 @@ use composite_ends::composite;
 use composite_ends::places;
 use composite_ends::rows;
 use layouts::Plan;
-use results::End;
 ghost use Prim.Native.Nat.{_+_, _*_, _<_, _≤_};
 ghost use lib.ListN.{length};
 ghost use Rattle.joined_ends.specs.Words.{flat, Behind};
 ghost use Rattle.kept_lists.specs.Words as K;
-
-// However many crossings there are.
-fn long_pieces(
-    inc: &[i16],
-    num: &[u32],
-    first: &[u32],
-    crossed: &[u32],
-    halves: &[u32],
-    plan: Plan,
-    marks: &[u64],
-    h: usize,
-    list: &mut [u32],
-    to: usize,
-) -> usize
-    requires { ⌜ K.Ready (now halves) (plan .sizes) (now inc) (now num) (K.rows (now first) (now crossed) (plan .base)) × K.Edges (plan .sizes) (K.rows (now first) (now crossed) (plan .base)) (now marks) × (h < 3 * (plan .sizes .fa + plan .sizes .fb)) ⌝ }
-    requires { ⌜ to + length (flat (K.half (now inc) (now num) (K.rows (now first) (now crossed) (plan .base)) (now halves) (plan .sizes) h)) ≤ length (now list) ⌝ }
-    ensures { λ r. ⌜ Behind (flat (K.half (now (inc .entry)) (now (num .entry)) (K.rows (now (first .entry)) (now (crossed .entry)) (plan .base)) (now (halves .entry)) (plan .sizes) h)) (now (list .entry)) to (now (list .exit)) r ⌝ }
-{
-    let row = 256 * rows::line_row(halves, plan.sizes, h);
-    let end = row + rows::line_many(plan.sizes, h);
-    let against = places::against(halves, h);
-    let mut all = [End {
-        vertex: 0,
-        count: 0,
-    }; 258];
-    all[0] = composite::corner(inc, num, halves, plan.sizes, h, 1, !against);
-    all[1] = composite::corner(inc, num, halves, plan.sizes, h, 2, against);
-    let mut n = 2;
-    let mut i = marks::first(marks, row, end);
-    while i < end {
-        all[n] = composite::line_end(first, crossed, halves, plan, h, i - row, against);
-        n += 1;
-        i = marks::next(marks, i + 1, end);
-    }
-    joined_ends::join_at(all, n, list, to)
-}
-
-// Up to six crossings: almost every edge that is crossed has no more.
-fn few_pieces(
-    inc: &[i16],
-    num: &[u32],
-    first: &[u32],
-    crossed: &[u32],
-    halves: &[u32],
-    plan: Plan,
-    marks: &[u64],
-    h: usize,
-    list: &mut [u32],
-    to: usize,
-) -> usize
-    requires { ⌜ K.Ready (now halves) (plan .sizes) (now inc) (now num) (K.rows (now first) (now crossed) (plan .base)) × K.Edges (plan .sizes) (K.rows (now first) (now crossed) (plan .base)) (now marks) × (h < 3 * (plan .sizes .fa + plan .sizes .fb)) ⌝ }
-    requires { ⌜ to + length (flat (K.half (now inc) (now num) (K.rows (now first) (now crossed) (plan .base)) (now halves) (plan .sizes) h)) ≤ length (now list) ⌝ }
-    ensures { λ r. ⌜ Behind (flat (K.half (now (inc .entry)) (now (num .entry)) (K.rows (now (first .entry)) (now (crossed .entry)) (plan .base)) (now (halves .entry)) (plan .sizes) h)) (now (list .entry)) to (now (list .exit)) r ⌝ }
-{
-    let row = 256 * rows::line_row(halves, plan.sizes, h);
-    let end = row + rows::line_many(plan.sizes, h);
-    let against = places::against(halves, h);
-    let mut all = [End {
-        vertex: 0,
-        count: 0,
-    }; 8];
-    all[0] = composite::corner(inc, num, halves, plan.sizes, h, 1, !against);
-    all[1] = composite::corner(inc, num, halves, plan.sizes, h, 2, against);
-    let mut n = 2;
-    let mut i = marks::first(marks, row, end);
-    while i < end {
-        if n == 8 {
-            return long_pieces(inc, num, first, crossed, halves, plan, marks, h, list, to);
-        }
-        all[n] = composite::line_end(first, crossed, halves, plan, h, i - row, against);
-        n += 1;
-        i = marks::next(marks, i + 1, end);
-    }
-    joined_ends::join_few_at(all, n, list, to)
-}
 
 // "start (minus its inclusion), end (its inclusion), then crossings"; of a half-edge against its edge each count is negated, which turns each piece
 // round. They go behind the first `to` numbers of the list. Most edges are not crossed at all.
@@ -112,5 +36,5 @@ pub fn half_pieces(
         let stop = composite::corner(inc, num, halves, plan.sizes, h, 2, against);
         return quiet::two_ends(start, stop, list, to);
     }
-    few_pieces(inc, num, first, crossed, halves, plan, marks, h, list, to)
+    crossed_pieces::few_pieces(inc, num, first, crossed, halves, plan, marks, h, list, to)
 }

@@ -1,6 +1,4 @@
-// The list of a solid's half-edges, from the table in which its edges' numbers stand; and two solids made ready.
-pub mod sides;
-
+// The list of a solid's half-edges, from the table in which its edges' numbers stand.
 ghost use mathlib.Core.Path.{_≡_};
 ghost use mathlib.Core.List.{[]};
 ghost use Prim.Native.Nat.{_+_, _*_, _/_, _<_, _≤_};

@@ -57,7 +57,7 @@ fn s_near(
     if box_lists::far_at(idle(as_b), bounds::dot(v), boxes, f) {
         return 0;
     }
-    containment::facet_s(as_b, v, containment::facet(points, corners, f))
+    containment::facet_s(as_b, v, facets::facet(points, corners, f))
 }
 
 fn sum_near(

@@ -18,7 +18,7 @@ use Rattle.points.specs.declared.Point.{Point}
 use Rattle.points.specs.Points.{coordinates}
 use Rattle.solids.specs.Solids.{Solid, vertices, vertex}
 use Rattle.result_points.specs.Words.{of-vertices}
-use Rattle.result_points.proofs.Runs.{Run, run-none, run-long, run-room, run-next, run-all}
+use Rattle.list_stores.proofs.Runs.{Run, run-none, run-long, run-room, run-next, run-all}
 
 -- ---- the code's test for not 0
 module _ (x : ℤ) (f : SFits w16 x) where

@@ -1,7 +1,4 @@
-pub mod Runs
-pub mod Kept
-pub mod Stretches
-pub mod Rowwise
-pub mod Three
-pub mod Reading
+mod Kept
+mod Three
+mod Reading
 pub mod Results

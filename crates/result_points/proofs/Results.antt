@@ -26,7 +26,8 @@ use Rattle.results.specs.Triangles.{listed, result}
 use Rattle.layouts.specs.Words.{sizes, columns, Listing}
 use Rattle.crossing_rows.specs.Words.{count-at, row, rows}
 use Rattle.inclusions.specs.Words.{Included}
-use Rattle.result_points.specs.Words.{of-vertices, key-at, stretch, of-row, of-rows, placed}
+use Rattle.crossing_points.specs.Words.{key-at, stretch, of-row, of-rows}
+use Rattle.result_points.specs.Words.{of-vertices, placed}
 use Rattle.result_points.proofs.Reading.{flat-places, flat-row}
 
 -- ---- lists put together

@@ -12,7 +12,8 @@ use Rattle.list_stores.proofs.Stores.{sets-three, sets-onto}
 use Rattle.solids.specs.Solids.{Solid, vertices}
 use Rattle.layouts.specs.declared.Sizes.{Sizes}
 use Rattle.layouts.specs.Words.{sizes}
-use Rattle.result_points.specs.Words.{of-vertices, of-rows, placed}
+use Rattle.crossing_points.specs.Words.{of-rows}
+use Rattle.result_points.specs.Words.{of-vertices, placed}
 
 module _ (a b : Solid) (inc : List ℤ) (first crossed : List ℕ) (old : List Float) where
   -- the inclusions of all vertices are there, and there is room for all points

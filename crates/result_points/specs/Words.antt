@@ -2,56 +2,18 @@
 -- left out, the crossings row by row, the vertices of B that are not left out.
 use mathlib.Core.Bool.{cond}
 use mathlib.Core.List.{List, [], _++_, flatMap}
-use Prim.Native.Nat.{ℕ, _+_, _-_}
-use lib.Dec.{ltb}
+use Prim.Native.Nat.{ℕ, _+_}
 use lib.Ieee.{Float}
 use lib.IntN.{ℤ, pos}
-use lib.ListN.{length, getD}
+use lib.ListN.{getD}
 use Rattle.list_words.specs.Lists.{upTo, nonzero}
-use Rattle.points.specs.declared.Point.{Point}
 use Rattle.points.specs.Points.{coordinates}
-use Rattle.crossings.specs.Crossings.{points, ef, fe}
-use Rattle.solids.specs.Solids.{Solid, vertices, facets, edges, vertex, edge, facet}
-use Rattle.edges.specs.Words.{edge-numbered}
-use Rattle.results.specs.Inclusion.{Key, eAfB, fAeB, place}
-use Rattle.layouts.specs.Words.{column}
-use Rattle.crossing_rows.specs.declared.Row.{Row}
-use Rattle.crossing_rows.specs.declared.Row.the-variants.{OfEdge, OfFacet}
-
--- ---- vertices
+use Rattle.solids.specs.Solids.{Solid, vertices, vertex}
+use Rattle.crossing_points.specs.Words.{of-rows}
 
 -- the points of a solid's vertices; vertex i is left out where the number at place from + i is 0
 unfoldable pub of-vertices : Solid → List ℤ → ℕ → List Float
 of-vertices s inc from = flatMap (λ i. cond (nonzero (getD inc (from + i) (pos 0))) (coordinates (vertex s i)) []) (upTo (vertices s))
 
--- ---- crossings
-
--- edge r of A with facet c of B, or behind A's edges a facet of A with edge c of B
-unfoldable pub key-at : Solid → Solid → ℕ → ℕ → Key
-key-at a b r c = cond (ltb r (length (edges a))) (eAfB (edge-numbered a r) c) (fAeB (r - length (edges a)) (edge-numbered b c))
-
--- the points of the crossings at the places from `from` to before `to`, of one row
-unfoldable pub stretch : (ℕ → Point) → List ℕ → ℕ → ℕ → List Float
-stretch point crossed from to = flatMap (λ i. coordinates (point (column (getD crossed (from + i) 0)))) (upTo (to - from))
-
-unfoldable pub of-row : Solid → Solid → List ℕ → List ℕ → ℕ → List Float
-of-row a b first crossed r = stretch (λ c. place a b (key-at a b r c)) crossed (getD first r 0) (getD first (r + 1) 0)
-
-unfoldable pub of-rows : Solid → Solid → List ℕ → List ℕ → List Float
-of-rows a b first crossed = flatMap (of-row a b first crossed) (upTo (length (edges a) + facets a))
-
--- ---- all
 unfoldable pub placed : Solid → Solid → List ℤ → List ℕ → List ℕ → List Float
 placed a b inc first crossed = of-vertices a inc 0 ++ (of-rows a b first crossed ++ of-vertices b inc (vertices a))
-
--- ---- a row by itself, as the code has it
-
--- how many columns it has with B
-unfoldable pub width : Row → Solid → ℕ
-width (OfEdge e) b = facets b
-width (OfFacet f) b = length (edges b)
-
--- its point in column c: A's
-unfoldable pub point-on : Row → Solid → ℕ → Point
-point-on (OfEdge e) b c = points (ef e (facet b c)) .a
-point-on (OfFacet f) b c = points (fe f (edge b (edge-numbered b c))) .a

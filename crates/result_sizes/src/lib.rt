@@ -35,7 +35,7 @@ pub fn gather(
     ensures { λ r. ⌜ Rs.Told op (now (ap .entry)) (now (ac .entry)) (now (bp .entry)) (now (bc .entry)) (now (ends .exit)) (now (halves .exit)) (now (inc .exit)) (now (first .exit)) (now (crossed .exit)) r ⌝ }
     ensures same { λ _. ⌜ length (now (crossed .exit)) ≡ length (now (crossed .entry)) ⌝ }
 {
-    let z = half_edges::sides::both(ap, ac, bp, bc, ends, halves);
+    let z = ready_solids::both(ap, ac, bp, bc, ends, halves);
     let Listed::Found(total) = crossings_found::find(
         result_numbers::sign(op),
         z,

@@ -1,5 +1,5 @@
-use native.Mathlib.Nat.{zero-add}
 -- `joins` meets its contract: the two counts stand in the table.
+use native.Mathlib.Nat.{zero-add}
 use mathlib.Core.Path.{_≡_, sym, ap, _∙_}
 use mathlib.Core.List.{List, []}
 use Prim.Native.Nat.{_+_, _*_, _<_}

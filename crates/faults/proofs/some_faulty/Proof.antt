@@ -1,5 +1,5 @@
-use native.Mathlib.Nat.{le-antisymm}
 -- `some_faulty` meets its contract: of the facets below f none is faulty.
+use native.Mathlib.Nat.{le-antisymm}
 use mathlib.Core.Path.{_≡_, refl, sym, _∙_}
 use mathlib.Core.Bool.{false}
 use Prim.Native.Nat.{_≤_, _-_, _/_}

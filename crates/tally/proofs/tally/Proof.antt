@@ -1,7 +1,7 @@
+-- `tally` meets its contract: the facets below f are counted.
 use mathlib.Core.Path.{subst}
 use native.Mathlib.Nat.{le-antisymm}
 use Rattle.solids.specs.Solids.{half-edges}
--- `tally` meets its contract: the facets below f are counted.
 use Prim.Native.Nat.{_≤_, _/_, _-_}
 use native.Mathlib.Omega.{arith}
 use lib.ListN.{length}
