@@ -1,7 +1,7 @@
 -- `stops_of` meets its contract.
-use Rattle.joined_ends.proofs.Sign.{no-stops, casts, stops-is}
-use Rattle.joined_ends.proofs.stops_of.Statement.{statement}
-use Rattle.joined_ends.proofs.stops_of.Tie as tie
+use Rattle.placed_ends.proofs.Sign.{no-stops, casts, stops-is}
+use Rattle.placed_ends.proofs.stops_of.Statement.{statement}
+use Rattle.placed_ends.proofs.stops_of.Tie as tie
 
 returns : tie.Need-returns
 returns c = no-stops (c .before .args .count) (c .before .fits .count) (c .if1 .taken)

@@ -1,7 +1,7 @@
 -- `next_place` meets its contract.
 use native.Mathlib.Omega.{arith}
-use Rattle.joined_ends.proofs.next_place.Statement.{statement}
-use Rattle.joined_ends.proofs.next_place.Tie as tie
+use Rattle.placed_ends.proofs.next_place.Statement.{statement}
+use Rattle.placed_ends.proofs.next_place.Tie as tie
 
 mul-result : tie.Need-mul-result
 mul-result c = record { fits = omega (arith, c .if1 .taken, c .before .pre) }

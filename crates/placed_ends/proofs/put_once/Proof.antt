@@ -1,9 +1,9 @@
 -- `put_once` meets its contract.
 use mathlib.Core.Path.{sym}
 use borrow.Author.Needs.{needs}
-use Rattle.joined_ends.proofs.Placing.{both, put-room, put-full}
-use Rattle.joined_ends.proofs.put_once.Statement.{statement}
-use Rattle.joined_ends.proofs.put_once.Tie as tie
+use Rattle.placed_ends.proofs.Placing.{both, put-room, put-full}
+use Rattle.placed_ends.proofs.put_once.Statement.{statement}
+use Rattle.placed_ends.proofs.put_once.Tie as tie
 
 mul-at : tie.Need-mul-at
 mul-at c = search needs

@@ -1,21 +1,17 @@
 -- What the loops that put starts and stops have done: what is left to put, put now, gives what the whole gives.
-use mathlib.Core.Path.{_≡_, refl, ap, _∙_}
-use mathlib.Core.List.{List, [], _∷_}
-use Prim.Native.Nat.{ℕ, zero, suc, _+_, _-_, _*_, _/_, _<_, _≤_}
+use mathlib.Core.Path.{_≡_, refl, ap}
+use mathlib.Core.List.{List}
+use Prim.Native.Nat.{ℕ, suc, _+_, _-_, _*_, _/_, _<_, _≤_}
 use native.Mathlib.Omega.{arith}
 use borrow.Author.Tests.{lt-ltb, le-ltb}
-use lib.IntN.{pos}
-use lib.ListN.{length, getD, set}
+use lib.ListN.{length, set}
 use Rattle.list_words.specs.Lists.{above, below}
 use Rattle.results.specs.declared.End.{End}
-use Rattle.joined_ends.specs.declared.Counts.{Counts}
-use Rattle.joined_ends.specs.Words.{put-once, put-times, placed, all-placed}
+use Rattle.placed_ends.specs.declared.Counts.{Counts}
+use Rattle.placed_ends.specs.Words.{put-once, put-times, placed}
 
 abbrev pub Side : Type 0
 Side = List ℕ × ℕ
-
-abbrev pub State : Type 0
-State = List ℕ × Counts
 
 pub both : {A B : Type 0} {s t : A × B} → s ≡ t → (s .0 ≡ t .0) × (s .1 ≡ t .1)
 both {A} {B} e = (ap {B = A} (λ (u : A × B). u .0) e, ap {B = B} (λ (u : A × B). u .1) e)
@@ -42,20 +38,3 @@ pub placed-by : (l : List ℕ) (c : Counts) (e : End) (a b k j : ℕ) (l₁ l₂
     → (l₂ ≡ put-times 1 (e .vertex) b (l₁, c .stops) .0) × (j ≡ put-times 1 (e .vertex) b (l₁, c .stops) .1)
     → (l₂ ≡ placed (l, c) e .0) × (record { starts = k; stops = j } ≡ placed (l, c) e .1)
 placed-by l c e a b k j l₁ l₂ ea eb p q = rw (q .0, q .1, p .0, p .1, ea, eb) (refl, refl)
-
--- ---- every end: what is placed after the first i of them, and after all
--- what would stand beyond the ends
-abbrev pub blank : End
-blank = record { vertex = 0; count = pos 0 }
-
-abbrev pub placed-to : List End → State → ℕ → State
-placed-to es s zero = s
-placed-to es s (suc i) = placed (placed-to es s i) (getD es i blank)
-
-first-placed : (e : End) (es : List End) (s : State) (i : ℕ) → placed-to (e ∷ es) s (suc i) ≡ placed-to es (placed s e) i
-first-placed e es s zero = refl
-first-placed e es s (suc i) = ap {B = State} (λ (t : State). placed t (getD es i blank)) (first-placed e es s i)
-
-pub placed-to-all : (es : List End) (s : State) → placed-to es s (length es) ≡ all-placed s es
-placed-to-all [] s = refl
-placed-to-all (e ∷ es) s = first-placed e es s (length es) ∙ placed-to-all es (placed s e)

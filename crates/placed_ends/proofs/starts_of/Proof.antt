@@ -1,7 +1,7 @@
 -- `starts_of` meets its contract.
-use Rattle.joined_ends.proofs.Sign.{wide-fits, minus-fits, minus-casts, minus-is, no-starts}
-use Rattle.joined_ends.proofs.starts_of.Statement.{statement}
-use Rattle.joined_ends.proofs.starts_of.Tie as tie
+use Rattle.placed_ends.proofs.Sign.{wide-fits, minus-fits, minus-casts, minus-is, no-starts}
+use Rattle.placed_ends.proofs.starts_of.Statement.{statement}
+use Rattle.placed_ends.proofs.starts_of.Tie as tie
 
 cast-wide : tie.Need-cast-wide
 cast-wide c = wide-fits (c .before .args .count) (c .before .fits .count)

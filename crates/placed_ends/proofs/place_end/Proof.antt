@@ -5,9 +5,9 @@ use mir.Syntax.{w32}
 use mir.Val.{SFits}
 use mir.ValLaws.{toZ-ofZ}
 use Rattle.list_words.specs.Lists.{above, below}
-use Rattle.joined_ends.proofs.Placing.{placed-by}
-use Rattle.joined_ends.proofs.place_end.Statement.{statement}
-use Rattle.joined_ends.proofs.place_end.Tie as tie
+use Rattle.placed_ends.proofs.Placing.{placed-by}
+use Rattle.placed_ends.proofs.place_end.Statement.{statement}
+use Rattle.placed_ends.proofs.place_end.Tie as tie
 
 starts-of-requires : tie.Need-starts-of-requires
 starts-of-requires c κs = search needs

@@ -5,10 +5,10 @@ use native.Mathlib.Nat.{sub-zero}
 use native.Mathlib.Omega.{arith}
 use borrow.Author.Needs.{needs}
 use lib.ListN.{length}
-use Rattle.joined_ends.specs.Words.{put-times}
-use Rattle.joined_ends.proofs.Placing.{both, times-step, times-end}
-use Rattle.joined_ends.proofs.put_times.Statement.{statement}
-use Rattle.joined_ends.proofs.put_times.Tie as tie
+use Rattle.placed_ends.specs.Words.{put-times}
+use Rattle.placed_ends.proofs.Placing.{both, times-step, times-end}
+use Rattle.placed_ends.proofs.put_times.Statement.{statement}
+use Rattle.placed_ends.proofs.put_times.Tie as tie
 
 abbrev Inv-loop : tie.InvT-loop
 Inv-loop list₀ side k n v at₀ i₀ list at i = (i ≤ n) × ((length list ≡ length list₀) × (put-times side v (n - i) (list, at) ≡ put-times side v n (list₀, k)))
