@@ -2,8 +2,8 @@
 use mathlib.Core.Path.{refl, sym, _∙_}
 use Rattle.bounds.proofs.Listing.{narrowed-none}
 use borrow.Author.Needs.{needs}
-use Rattle.crossings_found.proofs.narrow.Statement.{statement}
-use Rattle.crossings_found.proofs.narrow.Tie as tie
+use Rattle.crossing_groups.proofs.narrow.Statement.{statement}
+use Rattle.crossing_groups.proofs.narrow.Tie as tie
 
 apart-requires : tie.Need-apart-requires
 apart-requires c κs = search needs

@@ -1,5 +1,5 @@
--- Words of contracts between functions of this crate; no public statement needs them. Two solids as they are lent, rows of one kind that are looked
--- through, and what the list of crossings holds on the way.
+-- Words of contracts; no public statement needs them. Two solids as they are lent, rows of one kind that are looked through, and what the list of
+-- crossings holds on the way.
 use mathlib.Core.Path.{_≡_}
 use mathlib.Core.Bool.{true}
 use mathlib.Core.List.{List, flatMap}
@@ -17,7 +17,7 @@ use Rattle.bounds.specs.Words.{many, whole, Boxed, Among}
 use Rattle.crossing_rows.specs.declared.Listed.{Listed}
 use Rattle.crossing_rows.specs.declared.Listed.the-variants.{Found, Full}
 use Rattle.crossing_rows.specs.Words.{row, rows, across, count-of, row-of, crossing}
-use Rattle.crossings_found.specs.declared.Search.{Search}
+use Rattle.crossing_groups.specs.declared.Search.{Search}
 
 -- two admitted solids, with the ends of A's edges and then of B's
 pub record Both (ap : List Float) (ac : List ℕ) (bp : List Float) (bc ends : List ℕ) : Type 0 where

@@ -23,8 +23,8 @@ use Rattle.crossing_rows.specs.Words.{round, across, count-of, crossing, Behind
 use Rattle.crossing_rows.proofs.Listings.{crossing-skip, crossing-next, crossing-within, behind-none, behind-then}
 use Rattle.crossing_rows.proofs.Rowwise.{in-round, no-count, none-crossed}
 use borrow.Author.Needs.{needs}
-use Rattle.crossings_found.proofs.find_row.Statement.{statement}
-use Rattle.crossings_found.proofs.find_row.Tie as tie
+use Rattle.crossing_groups.proofs.find_row.Statement.{statement}
+use Rattle.crossing_groups.proofs.find_row.Tie as tie
 
 abbrev Inv-loop : tie.InvT-loop
 Inv-loop row search bp bc be columns boxes from crossed₀ b k₀ i₀ crossed k i = (i ≤ length columns) × (length crossed ≡ length crossed₀) × Behind crossed₀ from (crossing (search .sign) (count-of row (solid bp bc)) (take i columns)) crossed k

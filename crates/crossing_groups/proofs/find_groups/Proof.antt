@@ -16,14 +16,14 @@ use Rattle.bounds.specs.declared.Far.the-variants.{Apart}
 use Rattle.bounds.specs.Words.{apart, span, box-at, Narrowed}
 use Rattle.bounds.proofs.Inside.{In}
 use Rattle.bounds.proofs.Listing.{narrowed-among, narrowed-own}
-use Rattle.crossings_found.specs.declared.Search.{Search}
+use Rattle.crossing_groups.specs.declared.Search.{Search}
 use Rattle.crossing_rows.specs.Words.{row, round, Lying, row-of}
-use Rattle.crossings_found.specs.Words.{Searching, Enough, Offered, Reached}
+use Rattle.crossing_groups.specs.Words.{Searching, Enough, Offered, Reached}
 use Rattle.crossing_rows.proofs.Listings.{below, below-within}
-use Rattle.crossings_found.proofs.Searches.{rows-in, enough-near, enough-apart, among-apart}
+use Rattle.crossing_groups.proofs.Searches.{rows-in, enough-near, enough-apart, among-apart}
 use borrow.Author.Needs.{needs}
-use Rattle.crossings_found.proofs.find_groups.Statement.{statement}
-use Rattle.crossings_found.proofs.find_groups.Tie as tie
+use Rattle.crossing_groups.proofs.find_groups.Statement.{statement}
+use Rattle.crossing_groups.proofs.find_groups.Tie as tie
 
 abbrev Inv-loop : tie.InvT-loop
 Inv-loop search ap ac bp bc ends columns boxes first₀ crossed₀ few₀ r₀ first crossed few r = (search .begin ≤ r) × (r ≤ search .end) × (length first ≡ length first₀) × (length crossed ≡ length crossed₀) × (length few ≡ 384) × Listing (row (search .sign) (solid ap ac) (solid bp bc)) r first crossed

@@ -17,8 +17,8 @@ use Rattle.list_words.proofs.Places.{rest-all}
 use Rattle.crossing_rows.proofs.Listings.{below, below-next, below-within, listing-next}
 use Rattle.crossing_rows.proofs.Rowwise.{row-present}
 use borrow.Author.Needs.{needs}
-use Rattle.crossings_found.proofs.find_rows.Statement.{statement}
-use Rattle.crossings_found.proofs.find_rows.Tie as tie
+use Rattle.crossing_groups.proofs.find_rows.Statement.{statement}
+use Rattle.crossing_groups.proofs.find_rows.Tie as tie
 
 abbrev Inv-loop : tie.InvT-loop
 Inv-loop search ap ac bp bc ends columns boxes first₀ crossed₀ r₀ first crossed r =

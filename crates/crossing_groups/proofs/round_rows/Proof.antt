@@ -9,8 +9,8 @@ use Rattle.bounds.specs.Words.{joined, span}
 use Rattle.bounds.proofs.Things.{span-next}
 use Rattle.crossing_rows.specs.Words.{round, row-of}
 use borrow.Author.Needs.{needs}
-use Rattle.crossings_found.proofs.round_rows.Statement.{statement}
-use Rattle.crossings_found.proofs.round_rows.Tie as tie
+use Rattle.crossing_groups.proofs.round_rows.Statement.{statement}
+use Rattle.crossing_groups.proofs.round_rows.Tie as tie
 
 abbrev Inv-loop : tie.InvT-loop
 Inv-loop search ap ac ae all₀ r₀ all r = (search .begin ≤ r) × (r ≤ search .end) × (all ≡ span (λ i. round (row-of (solid ap ac) i)) (search .begin) (r - search .begin))
