@@ -17,8 +17,8 @@ pub fn tell(t: Tally, e: End) -> Tally
     requires { ⌜ (t .pieces ≤ 1073741824) × (t .at ≤ 1073741824) × (natAbs (e .count) ≤ 257) ⌝ }
     ensures { λ r. ⌜ r ≡ told t e ⌝ }
 {
-    let s = joined_ends::starts_of(e.count);
-    let n = s + joined_ends::stops_of(e.count);
+    let s = placed_ends::starts_of(e.count);
+    let n = s + placed_ends::stops_of(e.count);
     if n == 0 {
         return t;
     }

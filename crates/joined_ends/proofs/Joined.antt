@@ -13,10 +13,12 @@ use Rattle.list_words.proofs.UpTo.{upTo-first, map-upTo}
 use Rattle.solids.specs.Solids.{Half}
 use Rattle.results.specs.declared.End.{End}
 use Rattle.results.specs.Pieces.{starts, stops, pieces}
-use Rattle.joined_ends.specs.declared.Counts.{Counts}
-use Rattle.joined_ends.specs.Words.{flat, firsts, Behind, put-once, put-times, placed, all-placed, joined}
+use Rattle.placed_ends.specs.declared.Counts.{Counts}
+use Rattle.placed_ends.specs.Words.{put-once, put-times, placed}
+use Rattle.placed_ends.proofs.Placing.{put-room, put-full}
+use Rattle.joined_ends.specs.Words.{flat, firsts, Behind, all-placed, joined}
 use Rattle.joined_ends.proofs.Flat.{two-each, numbers-firsts}
-use Rattle.joined_ends.proofs.Placing.{State, put-room, put-full}
+use Rattle.joined_ends.proofs.AllPlaced.{State}
 
 -- ---- two lists, joined place by place
 pub length-zip : {A B : Type 0} (us : List A) (bs : List B) → length (zip us bs) ≡ min (length us) (length bs)

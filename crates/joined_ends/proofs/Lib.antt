@@ -1,5 +1,4 @@
 pub mod Flat
-pub mod Placing
-pub mod Sign
+pub mod AllPlaced
 pub mod Joined
 pub mod Front

@@ -17,7 +17,7 @@ use Rattle.bounds.proofs.Things.{all-hull}
 use Rattle.crossing_rows.specs.declared.Listed.{Listed}
 use Rattle.crossing_rows.specs.declared.Listed.the-variants.{Found, Full}
 use Rattle.crossing_rows.specs.Words.{row, rows, Answered}
-use Rattle.crossings_found.specs.Words.{Both, Searching, Reached}
+use Rattle.crossing_groups.specs.Words.{Both, Searching, Reached}
 use Rattle.crossing_rows.proofs.Listings.{below, below-within, listing-none}
 use Rattle.crossing_rows.proofs.Rowwise.{across-edge, across-facet}
 use borrow.Author.Needs.{needs}

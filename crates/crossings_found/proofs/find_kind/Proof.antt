@@ -14,10 +14,11 @@ use Rattle.bounds.specs.Words.{many, box-of, Boxed, Among, Narrowed}
 use Rattle.bounds.proofs.Inside.{In}
 use Rattle.bounds.proofs.Listing.{among-all, narrowed-among}
 use Rattle.crossing_rows.specs.Words.{Lying, row-of}
-use Rattle.crossings_found.specs.Words.{Enough, Offered}
+use Rattle.crossing_groups.specs.Words.{Enough, Offered}
 use Rattle.list_words.proofs.Places.{rest-all}
 use Rattle.crossing_rows.proofs.Rowwise.{many-few, row-whole}
-use Rattle.crossings_found.proofs.Searches.{enough-all, enough-near}
+use Rattle.crossing_groups.proofs.Searches.{enough-near}
+use Rattle.crossings_found.proofs.Searches.{enough-all}
 use borrow.Author.Needs.{needs}
 use Rattle.crossings_found.proofs.find_kind.Statement.{statement}
 use Rattle.crossings_found.proofs.find_kind.Tie as tie

@@ -55,14 +55,15 @@ use denote.Exit.{yes}
 use Rattle.results.specs.declared.End.{End}
 use Rattle.results.proofs.End as T
 use Rattle.results.proofs.End.Laws as T′
-use Rattle.joined_ends.specs.declared.Counts.{Counts}
-use Rattle.joined_ends.proofs.Counts as N
-use Rattle.joined_ends.proofs.Counts.Laws as N′
-use Rattle.joined_ends.proofs.Placing.{State, both, blank, placed-to, placed-to-all}
-use Rattle.joined_ends.proofs.place_end as g
-use Rattle.joined_ends.proofs.place_end.Symbol as g-def
-use Rattle.joined_ends.proofs.place_end.Symbol.{name as #place-end}
-use Rattle.joined_ends.proofs.place_end.Met as g-thm
+use Rattle.placed_ends.specs.declared.Counts.{Counts}
+use Rattle.placed_ends.proofs.Counts as N
+use Rattle.placed_ends.proofs.Counts.Laws as N′
+use Rattle.placed_ends.proofs.Placing.{both}
+use Rattle.placed_ends.proofs.place_end as g
+use Rattle.placed_ends.proofs.place_end.Symbol as g-def
+use Rattle.placed_ends.proofs.place_end.Symbol.{name as #place-end}
+use Rattle.placed_ends.proofs.place_end.Met as g-thm
+use Rattle.joined_ends.proofs.AllPlaced.{State, blank, placed-to, placed-to-all}
 use Rattle.joined_ends.proofs.join.Key.{name as #join}
 use Rattle.joined_ends.proofs.join as f
 use Rattle.joined_ends.proofs.join.Statement as stated
@@ -299,4 +300,4 @@ join-spec 𝓤 H 𝓜 𝓖 𝓡 =
     entered 𝓤 H (tripleOf 𝓤 H (𝓖 .A) f.signature (f.spec 𝓤 H (𝓖 .A) (𝓜 .mem) (𝓡 .run)))
     (tables 𝓤 H 𝓜 𝓡 code.env .C) (tables 𝓤 H 𝓜 𝓡 code.env .Λ) #join code.function (code.unfolded 𝓤 H 𝓜 𝓡)
     (meets 𝓤 H (𝓖 .A) (givenOf 𝓤 H 𝓜 𝓖) (𝓜 .mem) (𝓡 .run) (tablesOf 𝓤 H 𝓜 (tables 𝓤 H 𝓜 𝓡 code.env))
-    (cited 𝓤 H (Place 𝓤 H (𝓖 .A) (𝓜 .mem) (𝓡 .run)) 𝓜 𝓡 code.env #place-end g-def.routine code.calls-joined-ends·place-end (g-thm.met 𝓤 H 𝓜 𝓖 𝓡)))
+    (cited 𝓤 H (Place 𝓤 H (𝓖 .A) (𝓜 .mem) (𝓡 .run)) 𝓜 𝓡 code.env #place-end g-def.routine code.calls-placed-ends·place-end (g-thm.met 𝓤 H 𝓜 𝓖 𝓡)))

@@ -46,10 +46,10 @@ use denote.Exit.{yes}
 use Rattle.results.specs.declared.End.{End}
 use Rattle.results.proofs.End as T
 use Rattle.results.proofs.End.Laws as T′
-use Rattle.joined_ends.specs.declared.Counts.{Counts}
+use Rattle.placed_ends.specs.declared.Counts.{Counts}
 use Rattle.joined_ends.specs.Words.{joined}
-use Rattle.joined_ends.proofs.Counts as N
-use Rattle.joined_ends.proofs.Counts.Laws as N′
+use Rattle.placed_ends.proofs.Counts as N
+use Rattle.placed_ends.proofs.Counts.Laws as N′
 use Rattle.joined_ends.proofs.Front.{Lent, Kept, lends-front, front-back}
 use Rattle.joined_ends.proofs.join as g
 use Rattle.joined_ends.proofs.join.Symbol as g-def

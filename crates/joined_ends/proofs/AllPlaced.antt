@@ -1,0 +1,29 @@
+-- Every end: what is placed after the first i of them, and after all.
+use mathlib.Core.Path.{_≡_, refl, ap, _∙_}
+use mathlib.Core.List.{List, [], _∷_}
+use Prim.Native.Nat.{ℕ, zero, suc}
+use lib.IntN.{pos}
+use lib.ListN.{length, getD}
+use Rattle.results.specs.declared.End.{End}
+use Rattle.placed_ends.specs.declared.Counts.{Counts}
+use Rattle.placed_ends.specs.Words.{placed}
+use Rattle.joined_ends.specs.Words.{all-placed}
+
+abbrev pub State : Type 0
+State = List ℕ × Counts
+
+-- what would stand beyond the ends
+abbrev pub blank : End
+blank = record { vertex = 0; count = pos 0 }
+
+abbrev pub placed-to : List End → State → ℕ → State
+placed-to es s zero = s
+placed-to es s (suc i) = placed (placed-to es s i) (getD es i blank)
+
+first-placed : (e : End) (es : List End) (s : State) (i : ℕ) → placed-to (e ∷ es) s (suc i) ≡ placed-to es (placed s e) i
+first-placed e es s zero = refl
+first-placed e es s (suc i) = ap {B = State} (λ (t : State). placed t (getD es i blank)) (first-placed e es s i)
+
+pub placed-to-all : (es : List End) (s : State) → placed-to es s (length es) ≡ all-placed s es
+placed-to-all [] s = refl
+placed-to-all (e ∷ es) s = first-placed e es s (length es) ∙ placed-to-all es (placed s e)
