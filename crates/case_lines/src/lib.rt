@@ -191,6 +191,12 @@ pub fn stop(out: &mut Lines, at: usize)
     io::write_all(STDOUT_FILENO, case_fronts::bytes(out, end));
 }
 
+// The answer to a request that cannot be read.
+pub fn unknown(out: &mut Lines) {
+    let at = text(out, 0, b"?\n");
+    stop(out, at);
+}
+
 // All numbers of a list, each behind a space.
 pub fn listed(out: &mut Lines, at: usize, list: &[u32]) -> usize
     requires { ⌜ at ≤ 65536 ⌝ }

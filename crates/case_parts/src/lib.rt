@@ -1,4 +1,2 @@
-// The parts of a request, made of the words of standard input.
-pub mod common;
+// The parts that requests are made of, read from the words of standard input.
 pub mod parts;
-pub mod requests;

@@ -1,9 +1,10 @@
-// The requests for operations, one function each: it reads the parts, and where all are understood the answer is printed.
-use crate::calls;
+// The request of an operation: it reads the parts, and where all are understood the answer is printed.
+mod calls;
+
 use case_lines::Lines;
-use case_parts::common;
 use case_parts::parts;
-use case_parts::requests;
+use case_requests::common;
+use case_requests::requests;
 use case_words::input::Buffer;
 use case_words::input::Letters;
 use case_words::input::Reader;
@@ -62,18 +63,6 @@ pub fn op(buffer: &mut Buffer, letters: &mut Letters, out: &mut Lines, r: Reader
             room.corners,
             room.origins,
         );
-    }
-    q
-}
-
-pub fn solid(buffer: &mut Buffer, letters: &mut Letters, out: &mut Lines, r: Reader) -> Reader
-    requires { ⌜ Sound r ⌝ }
-    ensures { λ q. ⌜ Sound q ⌝ }
-{
-    let mut bytes = [0u8; 65536];
-    let q = parts::bytes(buffer, letters, r, &mut bytes);
-    if q.good {
-        calls::solid(out, case_fronts::bytes(&bytes, q.number));
     }
     q
 }

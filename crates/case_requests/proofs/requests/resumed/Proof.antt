@@ -2,8 +2,8 @@
 use Rattle.case_words.specs.Words.{Sound}
 use Prim.Native.Nat.{_+_}
 use borrow.Author.Needs.{needs}
-use Rattle.case_parts.proofs.requests.resumed.Statement.{statement}
-use Rattle.case_parts.proofs.requests.resumed.Tie as tie
+use Rattle.case_requests.proofs.requests.resumed.Statement.{statement}
+use Rattle.case_requests.proofs.requests.resumed.Tie as tie
 
 abbrev Inv-loop : tie.InvT-loop
 Inv-loop buffer₀ letters₀ q₀ buffer letters q = Sound q

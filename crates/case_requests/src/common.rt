@@ -1,8 +1,8 @@
 // Parts that requests have in common: a solid, a point, the room of an operation.
-use crate::parts;
 use crate::requests;
 use case_fronts::Coordinates;
 use case_fronts::Corners;
+use case_parts::parts;
 use case_words::input::Buffer;
 use case_words::input::Letters;
 use case_words::input::Reader;

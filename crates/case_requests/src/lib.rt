@@ -1,0 +1,3 @@
+// Where a request begins, and the parts that requests have in common.
+pub mod common;
+pub mod requests;
