@@ -12,7 +12,7 @@ point-at-requires-2 c κs = search needs
 
 returns : tie.Need-returns
 unfolding pair-at
-returns c = cc
+returns c = rw (c .before .point-at .ensures, c .point-at2 .ensures)
 
 pub pair-at-spec : {M : Type 1} → statement M
 pair-at-spec = tie.close (tie.spec point-at-requires point-at-requires-2 returns)

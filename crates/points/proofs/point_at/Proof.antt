@@ -15,7 +15,7 @@ interpolated-requires-3 c κs = search needs
 
 returns : tie.Need-returns
 unfolding point-at
-returns c = cc
+returns c = rw (c .before .before .interpolated .ensures, c .before .interpolated2 .ensures, c .interpolated3 .ensures)
 
 pub point-at-spec : {M : Type 1} → statement M
 point-at-spec =
