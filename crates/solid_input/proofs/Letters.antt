@@ -11,7 +11,7 @@ use Rattle.results.specs.declared.Chosen.the-variants.{Known, Unknown}
 use Rattle.results.specs.Inclusion.{chosen}
 use Rattle.results.specs.Operation.{refusal}
 use Rattle.solid_line.specs.Line.{letter, room, by-letter, program}
-use Rattle.solid_outcome.specs.Words.{of-bytes}
+use Rattle.solid_input.specs.Words.{of-bytes}
 use Rattle.solids.specs.Refusals.{answer-of}
 
 -- ---- a code

@@ -1,7 +1,7 @@
 -- `code_of` meets its contract: the three letters, and any other.
 use borrow.Author.Tests.{ne-eqb}
-use Rattle.solid_outcome.proofs.inputs.code_of.Statement.{statement}
-use Rattle.solid_outcome.proofs.inputs.code_of.Tie as tie
+use Rattle.solid_input.proofs.code_of.Statement.{statement}
+use Rattle.solid_input.proofs.code_of.Tie as tie
 
 returns : tie.Need-returns
 returns c = rw (c .match .keys1)

@@ -4,9 +4,9 @@ use native.Mathlib.Omega.{arith}
 use lib.Seq.{length-take-le}
 use borrow.Author.Tests.{lt-ltb, le-ltb}
 use borrow.Author.Needs.{needs}
-use Rattle.solid_outcome.specs.Words.{kept-admission}
-use Rattle.solid_outcome.proofs.inputs.admitted.Statement.{statement}
-use Rattle.solid_outcome.proofs.inputs.admitted.Tie as tie
+use Rattle.solid_input.specs.Words.{kept-admission}
+use Rattle.solid_input.proofs.admitted.Statement.{statement}
+use Rattle.solid_input.proofs.admitted.Tie as tie
 
 returns : tie.Need-returns
 unfolding kept-admission

@@ -3,8 +3,8 @@ use mathlib.Core.Path.{ap}
 use lib.Ieee.{ofBits}
 use borrow.Author.Needs.{needs}
 use Rattle.solid_line.specs.Answers.{made}
-use Rattle.solid_outcome.proofs.inputs.operated.Statement.{statement}
-use Rattle.solid_outcome.proofs.inputs.operated.Tie as tie
+use Rattle.solid_outcome.proofs.operated.Statement.{statement}
+use Rattle.solid_outcome.proofs.operated.Tie as tie
 
 slice-aggregate-operate : tie.Need-slice-aggregate-operate
 slice-aggregate-operate c = search needs

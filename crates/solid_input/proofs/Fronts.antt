@@ -10,8 +10,9 @@ use borrow.Author.Tests.{ne-eqb, eq-eqb}
 use Rattle.list_words.proofs.Tests.{never}
 use Rattle.solids.specs.declared.Answer.{Answer}
 use Rattle.solids.specs.declared.Verdict.{Verdict}
-use Rattle.solids.specs.declared.Verdict.the-variants.{Accepted, Refused}
-use Rattle.solids.specs.Refusals.{in-order, answer-of}
+use Rattle.solids.specs.declared.Verdict.the-variants.{Accepted}
+use Rattle.solids.specs.declared.Verdict.the-variants as Vd
+use Rattle.solids.specs.Refusals.{answer-of}
 use Rattle.solids.specs.Solids.{Solid, solid}
 use Rattle.solids.specs.Admission.{admission}
 use Rattle.solids.proofs.Orders.{then-2}
@@ -27,11 +28,12 @@ use Rattle.housefile_reader.specs.declared.Walk.{Walk}
 use Rattle.housefile_reader.specs.Words.{many, Found, Scanned}
 use Rattle.housefile_reader.proofs.Outcomes.{even-found, too-many-found, points-front, corners-front, few}
 use Rattle.solid_line.specs.Line.{room, of-files}
-use Rattle.solid_outcome.specs.Words.{front, kept-admission, of-walks, of-bytes}
+use Rattle.solid_input.specs.declared.Taken.the-variants.{Both, Refused}
+use Rattle.solid_input.specs.Words.{front, kept-admission, of-walks, of-bytes, Rooms, Tells}
 
 -- ---- one walk
 module _ (w : Walk) (ps : List Float) (cs : List ℕ) where
-  kept-many : many w ≡ true → kept-admission w ps cs ≡ Refused (answer-of 2)
+  kept-many : many w ≡ true → kept-admission w ps cs ≡ Vd.Refused (answer-of 2)
   unfolding kept-admission
   kept-many e = rw e
 
@@ -39,7 +41,7 @@ module _ (w : Walk) (ps : List Float) (cs : List ℕ) where
   unfolding kept-admission
   kept-few e = rw e
 
-  pub accepted-few : kept-admission w ps cs ≡ Accepted → many w ≡ false
+  accepted-few : kept-admission w ps cs ≡ Accepted → many w ≡ false
   accepted-few a = by-many (many w) refl
     where
       by-many : (b : Bool) → many w ≡ b → many w ≡ false
@@ -61,20 +63,19 @@ module _ (w : Walk) (ps : List Float) (cs : List ℕ) where
 
 -- ---- two walks
 module _ (code : ℕ) (w : Walk) (ps : List Float) (cs : List ℕ) (v : Walk) (qs : List Float) (es : List ℕ) where
-  pub then-A-kept : (n : Answer) → kept-admission w ps cs ≡ Refused n → of-walks code w ps cs v qs es ≡ refusal n room
-  unfolding of-walks in-order
+  pub then-A-kept : (n : Answer) → kept-admission w ps cs ≡ Vd.Refused n → of-walks code w ps cs v qs es ≡ Refused n
+  unfolding of-walks
   then-A-kept n e = rw e
 
-  pub then-B-kept : (n : Answer) → kept-admission w ps cs ≡ Accepted → kept-admission v qs es ≡ Refused n → of-walks code w ps cs v qs es ≡ refusal n room
-  unfolding of-walks in-order
+  pub then-B-kept : (n : Answer) → kept-admission w ps cs ≡ Accepted → kept-admission v qs es ≡ Vd.Refused n → of-walks code w ps cs v qs es ≡ Refused n
+  unfolding of-walks
   then-B-kept n d e = rw (d, e)
 
-  pub then-operation : kept-admission w ps cs ≡ Accepted → kept-admission v qs es ≡ Accepted
-      → of-walks code w ps cs v qs es ≡ operation code (front w ps cs) (front v qs es) room
-  unfolding of-walks in-order
-  then-operation d e = rw (d, e)
+  pub then-both : kept-admission w ps cs ≡ Accepted → kept-admission v qs es ≡ Accepted → of-walks code w ps cs v qs es ≡ Both code w v
+  unfolding of-walks
+  then-both d e = rw (d, e)
 
-  module _ (op : Operation) (known : chosen code ≡ Known op)
+  module _ (op : Operation) (known : chosen code ≡ Known op) (rooms : Rooms ps cs qs es)
       (i : ℕ) (xs : List Float) (ds : List ℕ) (f : Found w i xs ds ps cs) (j : ℕ) (ys : List Float) (gs : List ℕ) (g : Found v j ys gs qs es) where
     abbrev a : Solid
     a = solid xs ds
@@ -82,18 +83,24 @@ module _ (code : ℕ) (w : Walk) (ps : List Float) (cs : List ℕ) (v : Walk) (q
     abbrev b : Solid
     b = solid ys gs
 
-    by-verdicts : (m n : Verdict) → kept-admission w ps cs ≡ m → kept-admission v qs es ≡ n → of-walks code w ps cs v qs es ≡ operate op a b room
-    by-verdicts (Refused k) n d e = then-A-kept k d ∙ sym (then-A a b room op k (sym (kept-found w ps cs i xs ds f) ∙ d))
-    by-verdicts Accepted (Refused k) d e =
-        then-B-kept k d e ∙ sym (then-B a b room op k (sym (kept-found w ps cs i xs ds f) ∙ d) (sym (kept-found v qs es j ys gs g) ∙ e))
+    by-verdicts : (m n : Verdict) → kept-admission w ps cs ≡ m → kept-admission v qs es ≡ n → Tells (operate op a b room) (of-walks code w ps cs v qs es) ps cs qs es
+    by-verdicts (Vd.Refused k) n d e = rw (then-A-kept k d) (then-A a b room op k (sym (kept-found w ps cs i xs ds f) ∙ d))
+    by-verdicts Accepted (Vd.Refused k) d e =
+        rw (then-B-kept k d e) (then-B a b room op k (sym (kept-found w ps cs i xs ds f) ∙ d) (sym (kept-found v qs es j ys gs g) ∙ e))
     by-verdicts Accepted Accepted d e =
-        then-operation d e
-        ∙ ap₂ (λ s t. operation code s t room)
-        (front-found w ps cs i xs ds f (accepted-few w ps cs d))
-        (front-found v qs es j ys gs g (accepted-few v qs es e))
-        ∙ by-code a b room op code known
+        let no-w = accepted-few w ps cs d in
+        let no-v = accepted-few v qs es e in
+        rw (then-both d e)
+        record {
+          rooms = rooms;
+          few-A = few w no-w;
+          few-B = few v no-v;
+          operated =
+              sym (by-code a b room op code known)
+              ∙ sym (ap₂ (λ s t. operation code s t room) (front-found w ps cs i xs ds f no-w) (front-found v qs es j ys gs g no-v));
+        }
 
-    pub of-walks-found : of-walks code w ps cs v qs es ≡ operate op a b room
+    pub of-walks-found : Tells (operate op a b room) (of-walks code w ps cs v qs es) ps cs qs es
     of-walks-found = by-verdicts (kept-admission w ps cs) (kept-admission v qs es) refl refl
 
 -- ---- a walk and its layout

@@ -1,5 +1,4 @@
 -- `of_bytes` meets its contract: a fault in the first file, one in the second, bytes behind both, or what the two walks come to.
-use mathlib.Core.Path.{sym, ap, _∙_}
 use Prim.Native.Nat.{_+_, _-_, _≤_}
 use native.Mathlib.Omega.{arith}
 use lib.ListN.{length, drop, length-drop}
@@ -7,10 +6,9 @@ use lib.Seq.{take-all}
 use borrow.Author.Needs.{needs}
 use Rattle.housefile.specs.Reader.{layout}
 use Rattle.housefile_reader.specs.Words.{Scanned}
-use Rattle.solid_line.specs.Answers.{made}
-use Rattle.solid_outcome.proofs.Fronts.{Laid, fault-scanned, laid-scanned, laid-within, first-fault, second-fault, trailing, both-laid, of-walks-found}
-use Rattle.solid_outcome.proofs.inputs.of_bytes.Statement.{statement}
-use Rattle.solid_outcome.proofs.inputs.of_bytes.Tie as tie
+use Rattle.solid_input.proofs.Fronts.{Laid, fault-scanned, laid-scanned, laid-within, first-fault, second-fault, trailing, both-laid, of-walks-found}
+use Rattle.solid_input.proofs.of_bytes.Statement.{statement}
+use Rattle.solid_input.proofs.of_bytes.Tie as tie
 
 -- the first file, past its fault
 laid-A : (c : tie.Else1)
@@ -55,15 +53,11 @@ within-B c =
 scan-requires : tie.Need-scan-requires
 scan-requires c κs = search needs
 
-refused-requires : tie.Need-refused-requires
-refused-requires c κs = search needs
-
 returns : tie.Need-returns
 returns c op known =
-    let k = c .before .before in
+    let k = c .before in
     let bs = k .before .before .before .before .args .bytes .now in
-    c .refused .ensures
-    ∙ sym (ap made (first-fault op bs (fault-scanned (k .scan .result) (k .scan .last .1 .0) (k .scan .last .1 .1 .0) (layout bs) (k .scan .ensures .0) (c .before .if1 .taken))))
+    first-fault op bs (fault-scanned (k .scan .result) (k .scan .last .1 .0) (k .scan .last .1 .1 .0) (layout bs) (k .scan .ensures .0) (c .if1 .taken))
 
 sub-scan : tie.Need-sub-scan
 sub-scan c = within-A c
@@ -77,52 +71,29 @@ part-scan-end c = search needs
 scan-requires-2 : tie.Need-scan-requires-2
 scan-requires-2 c κs = search needs
 
-refused-requires-2 : tie.Need-refused-requires-2
-refused-requires-2 c κs = search needs
-
 returns-2 : tie.Need-returns-2
 returns-2 c op known =
-    let k = c .before .before in
+    let k = c .before in
     let e = k .before .before .before .before in
     let bs = e .before .before .before .before .before .args .bytes .now in
     let l = laid-A e in
-    c .refused2 .ensures
-    ∙ sym (ap made (second-fault op bs (e .before .scan .result .used) (l .xs) (l .ds) (l .as-laid)
-    (fault-scanned (k .scan2 .result) (k .scan2 .last .1 .0) (k .scan2 .last .1 .1 .0) (layout (drop (e .before .scan .result .used) bs)) (scanned-B k) (c .before .if2 .taken))))
+    second-fault op bs (e .before .scan .result .used) (l .xs) (l .ds) (l .as-laid)
+    (fault-scanned (k .scan2 .result) (k .scan2 .last .1 .0) (k .scan2 .last .1 .1 .0) (layout (drop (e .before .scan .result .used) bs)) (scanned-B k) (c .if2 .taken))
 
 add-if3 : tie.Need-add-if3
 add-if3 c = omega (arith, within-B (c .before))
 
-refused-requires-3 : tie.Need-refused-requires-3
-refused-requires-3 c κs = search needs
-
 returns-3 : tie.Need-returns-3
 returns-3 c op known =
-    let k = c .before .before .before in
+    let k = c .before .before in
     let e = k .before .before .before .before .before in
     let bs = e .before .before .before .before .before .args .bytes .now in
     let l = laid-A e in
     let m = laid-B k in
-    c .refused3 .ensures
-    ∙ sym (ap made (trailing op bs (e .before .scan .result .used) (l .xs) (l .ds) (l .as-laid) (k .before .scan2 .result .used) (m .xs) (m .ds) (m .as-laid) (λ all. omega arith)))
-
-slice-aggregate-of-walks : tie.Need-slice-aggregate-of-walks
-slice-aggregate-of-walks c = sym (c .before .before .before .before .before .before .before .before .before .scan .ensures .1 .0)
-
-slice-aggregate-of-walks-2 : tie.Need-slice-aggregate-of-walks-2
-slice-aggregate-of-walks-2 c = sym (c .before .before .before .before .before .before .before .before .before .before .scan .ensures .1 .1)
-
-slice-aggregate-of-walks-3 : tie.Need-slice-aggregate-of-walks-3
-slice-aggregate-of-walks-3 c = sym (c .before .before .before .before .before .before .scan2 .ensures .1 .0)
-
-slice-aggregate-of-walks-4 : tie.Need-slice-aggregate-of-walks-4
-slice-aggregate-of-walks-4 c = sym (c .before .before .before .before .before .before .before .scan2 .ensures .1 .1)
+    trailing op bs (e .before .scan .result .used) (l .xs) (l .ds) (l .as-laid) (k .before .scan2 .result .used) (m .xs) (m .ds) (m .as-laid) (λ all. omega arith)
 
 of-walks-requires : tie.Need-of-walks-requires
-of-walks-requires c κs =
-    let k = c .before .before .before .before .before .before .before in
-    let e = k .before .before .before .before .before .scan .ensures .1 in
-    (e .0, e .1, k .scan2 .ensures .1 .0, k .scan2 .ensures .1 .1)
+of-walks-requires c κs = search needs
 
 returns-4 : tie.Need-returns-4
 returns-4 c op known =
@@ -134,30 +105,22 @@ returns-4 c op known =
     let g = k .before .scan2 in
     let l = laid-A e in
     let m = laid-B k in
-    c .of-walks .ensures
-    ∙ ap made (of-walks-found (a .code) (f .result) (f .last .1 .0) (f .last .1 .1 .0) (g .result) (g .last .1 .0) (g .last .1 .1 .0)
-    op known _ (l .xs) (l .ds) (l .found) _ (m .xs) (m .ds) (m .found)
-    ∙ sym (both-laid op (a .bytes .now) (f .result .used) (l .xs) (l .ds) (l .as-laid) (g .result .used) (m .xs) (m .ds) (m .as-laid) (omega (arith, within-B k))))
+    rw (c .of-walks .ensures, both-laid op (a .bytes .now) (f .result .used) (l .xs) (l .ds) (l .as-laid) (g .result .used) (m .xs) (m .ds) (m .as-laid) (omega (arith, within-B k)))
+    (of-walks-found (a .code) (f .result) (f .last .1 .0) (f .last .1 .1 .0) (g .result) (g .last .1 .0) (g .last .1 .1 .0)
+    op known (f .ensures .1 .0, f .ensures .1 .1, g .ensures .1 .0, g .ensures .1 .1) _ (l .xs) (l .ds) (l .found) _ (m .xs) (m .ds) (m .found))
 
 pub of-bytes-spec : {M : Type 1} → statement M
 of-bytes-spec =
     tie.close
     (tie.spec
     scan-requires
-    refused-requires
     returns
     sub-scan
     part-scan-start
     part-scan-end
     scan-requires-2
-    refused-requires-2
     returns-2
     add-if3
-    refused-requires-3
     returns-3
-    slice-aggregate-of-walks
-    slice-aggregate-of-walks-2
-    slice-aggregate-of-walks-3
-    slice-aggregate-of-walks-4
     of-walks-requires
     returns-4)
