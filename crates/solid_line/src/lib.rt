@@ -1,5 +1,5 @@
-// The line that the program `solid` prints is a function of its input's bytes: specs/ has it. Its code is in crates/solid_outcome and crates/solid_printing; here
-// is the text that they answer.
+// The line that the program `solid` prints is a function of its input's bytes: specs/ has it. Its code is in crates/solid_input, solid_outcome and
+// solid_printing; here is the text that they answer.
 
 // A text is the first `used` of its bytes, which have room for a line of three numbers of any size; behind it are zeros.
 pub struct Text {

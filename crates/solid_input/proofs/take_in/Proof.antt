@@ -9,7 +9,7 @@ use Rattle.solid_input.proofs.take_in.Statement.{statement}
 use Rattle.solid_input.proofs.take_in.Tie as tie
 
 returns : tie.Need-returns
-returns c = no-letter _ (c .if1 .taken)
+returns c = no-letter _ (omega (arith, c .if1 .taken))
 
 shared-slice-read-code-of : tie.Need-shared-slice-read-code-of
 shared-slice-read-code-of c = search needs
