@@ -1,6 +1,5 @@
 // How often a solid contains a point, with the solid as A and as B, in code.
 use crossings::Facet;
-use points::Axis;
 use points::Point;
 use solids::Answer;
 use solids::Counted;
@@ -22,9 +21,9 @@ pub fn facet_s(as_b: bool, v: Point, f: Facet) -> i32
     ensures small { λ r. ⌜ natAbs r ≤ 1 ⌝ }
 {
     if as_b {
-        vertex_facet::vf(v, f).s(Axis::Z)
+        crossing_counts::vf_s(v, f)
     } else {
-        vertex_facet::fv(f, v).s(Axis::Z)
+        crossing_counts::fv_s(f, v)
     }
 }
 

@@ -1,4 +1,5 @@
-// X of an edge with a facet alone, without its points: each vertex with each edge once, and of its points only what is asked for.
+// X of an edge with a facet, and S of a vertex with a facet, without their points: each vertex with each edge once, and of its points only what is
+// asked for.
 use crossings::Edge;
 use crossings::Facet;
 use points::Axis;
@@ -241,6 +242,28 @@ fn total(a: i32, b: i32, x: i32, y: i32, z: i32) -> i32
     ensures { λ r. ⌜ r ≡ a -ℤ b -ℤ (x +ℤ (y +ℤ z)) ⌝ }
 {
     a - b - (x + (y + z))
+}
+
+// S(vA,fB)
+pub fn vf_s(v: Point, f: Facet) -> i32
+    ensures { λ r. ⌜ r ≡ C.S Axis.Z (C.vf v f) ⌝ }
+    ensures small { λ r. ⌜ natAbs r ≤ 1 ⌝ }
+{
+    let pq = ve(v, edge_of(f.pq, f.p, f.q));
+    let qr = ve(v, edge_of(f.qr, f.q, f.r));
+    let rp = ve(v, edge_of(f.rp, f.r, f.p));
+    three(f.pq, pq, f.qr, qr, f.rp, rp)
+}
+
+// S(fA,vB)
+pub fn fv_s(f: Facet, v: Point) -> i32
+    ensures { λ r. ⌜ r ≡ C.S Axis.Z (C.fv f v) ⌝ }
+    ensures small { λ r. ⌜ natAbs r ≤ 1 ⌝ }
+{
+    let pq = ev(edge_of(f.pq, f.p, f.q), v);
+    let qr = ev(edge_of(f.qr, f.q, f.r), v);
+    let rp = ev(edge_of(f.rp, f.r, f.p), v);
+    three(!f.pq, pq, !f.qr, qr, !f.rp, rp)
 }
 
 // "X(eA,fB) = S(s,fB) - S(e,fB) - sum S(eA,h)"
