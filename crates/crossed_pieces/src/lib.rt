@@ -5,10 +5,10 @@ use composite_ends::places;
 use composite_ends::rows;
 use layouts::Plan;
 use results::End;
-ghost use Prim.Native.Nat.{_+_, _*_, _<_, _≤_};
+ghost use Prim.Native.Nat.{_+_, _≤_};
 ghost use lib.ListN.{length};
-ghost use Rattle.joined_ends.specs.Words.{flat, Behind};
-ghost use Rattle.kept_lists.specs.Words as K;
+ghost use Rattle.joined_ends.specs.Words.{Behind};
+ghost use Rattle.crossed_pieces.specs.Words as Cp;
 
 // However many crossings there are.
 fn long_pieces(
@@ -23,9 +23,9 @@ fn long_pieces(
     list: &mut [u32],
     to: usize,
 ) -> usize
-    requires { ⌜ K.Ready (now halves) (plan .sizes) (now inc) (now num) (K.rows (now first) (now crossed) (plan .base)) × K.Edges (plan .sizes) (K.rows (now first) (now crossed) (plan .base)) (now marks) × (h < 3 * (plan .sizes .fa + plan .sizes .fb)) ⌝ }
-    requires { ⌜ to + length (flat (K.half (now inc) (now num) (K.rows (now first) (now crossed) (plan .base)) (now halves) (plan .sizes) h)) ≤ length (now list) ⌝ }
-    ensures { λ r. ⌜ Behind (flat (K.half (now (inc .entry)) (now (num .entry)) (K.rows (now (first .entry)) (now (crossed .entry)) (plan .base)) (now (halves .entry)) (plan .sizes) h)) (now (list .entry)) to (now (list .exit)) r ⌝ }
+    requires { ⌜ Cp.Given plan (now inc) (now num) (now first) (now crossed) (now halves) (now marks) h ⌝ }
+    requires { ⌜ to + length (Cp.pieces-of plan (now inc) (now num) (now first) (now crossed) (now halves) h) ≤ length (now list) ⌝ }
+    ensures { λ r. ⌜ Behind (Cp.pieces-of plan (now (inc .entry)) (now (num .entry)) (now (first .entry)) (now (crossed .entry)) (now (halves .entry)) h) (now (list .entry)) to (now (list .exit)) r ⌝ }
 {
     let row = 256 * rows::line_row(halves, plan.sizes, h);
     let end = row + rows::line_many(plan.sizes, h);
@@ -59,9 +59,9 @@ pub fn few_pieces(
     list: &mut [u32],
     to: usize,
 ) -> usize
-    requires { ⌜ K.Ready (now halves) (plan .sizes) (now inc) (now num) (K.rows (now first) (now crossed) (plan .base)) × K.Edges (plan .sizes) (K.rows (now first) (now crossed) (plan .base)) (now marks) × (h < 3 * (plan .sizes .fa + plan .sizes .fb)) ⌝ }
-    requires { ⌜ to + length (flat (K.half (now inc) (now num) (K.rows (now first) (now crossed) (plan .base)) (now halves) (plan .sizes) h)) ≤ length (now list) ⌝ }
-    ensures { λ r. ⌜ Behind (flat (K.half (now (inc .entry)) (now (num .entry)) (K.rows (now (first .entry)) (now (crossed .entry)) (plan .base)) (now (halves .entry)) (plan .sizes) h)) (now (list .entry)) to (now (list .exit)) r ⌝ }
+    requires { ⌜ Cp.Given plan (now inc) (now num) (now first) (now crossed) (now halves) (now marks) h ⌝ }
+    requires { ⌜ to + length (Cp.pieces-of plan (now inc) (now num) (now first) (now crossed) (now halves) h) ≤ length (now list) ⌝ }
+    ensures { λ r. ⌜ Behind (Cp.pieces-of plan (now (inc .entry)) (now (num .entry)) (now (first .entry)) (now (crossed .entry)) (now (halves .entry)) h) (now (list .entry)) to (now (list .exit)) r ⌝ }
 {
     let row = 256 * rows::line_row(halves, plan.sizes, h);
     let end = row + rows::line_many(plan.sizes, h);
