@@ -2,7 +2,8 @@
 //   bench head                 the table's head
 //   bench rows CASE REPEATS    the rows of a case, by its number from 0; each time is the best of so many
 //   bench once SIDE CASE OP    one operation by one side (ours, cgal or manifold), for a trace
-//   bench profile CASE OP      the library's operation fifty times: where it stood whenever a timer rang, as addresses
+//   bench profile CASE OP      the library's operation two thousand times: where it stood whenever a timer rang, as addresses
+//   bench results              a sum over the bits of each result of the library, one a line: two processors' can be compared
 //   bench names                the cases, one a line
 #include "sides.h"
 #include <algorithm>
@@ -78,9 +79,17 @@ static void say(const Out &out) {
 static std::array<unsigned long long, 1 << 20> stood;
 static volatile size_t samples = 0;
 
+static unsigned long long place(const mcontext_t &m) {
+#if defined(__x86_64__)
+    return static_cast<unsigned long long>(m.gregs[REG_RIP]);
+#else
+    return m.pc;
+#endif
+}
+
 static void sample(int, siginfo_t *, void *context) {
     if (samples < stood.size()) {
-        stood[samples] = static_cast<unsigned long long>(static_cast<ucontext_t *>(context)->uc_mcontext.gregs[REG_RIP]);
+        stood[samples] = place(static_cast<ucontext_t *>(context)->uc_mcontext);
         samples = samples + 1;
     }
 }
@@ -93,7 +102,7 @@ static void profile(const Case &c, uint32_t code) {
     sigaction(SIGPROF, &action, nullptr);
     const itimerval every = {{0, 1000}, {0, 1000}}, never = {};
     setitimer(ITIMER_PROF, &every, nullptr);
-    for (int i = 0; i < 50; i++) {
+    for (int i = 0; i < 2000; i++) {
         measured_ours(code, c.a, c.b, out);
     }
     setitimer(ITIMER_PROF, &never, nullptr);
@@ -161,6 +170,28 @@ static bool once(const char *name, const Case &c, uint32_t code) {
     return false;
 }
 
+// FNV-1a, over whole numbers.
+static uint64_t sum(uint64_t s, uint64_t n) {
+    return (s ^ n) * 1099511628211u;
+}
+
+static uint64_t result(const Case &c, uint32_t code, Out &out) {
+    measured_ours(code, c.a, c.b, out);
+    uint64_t s = sum(14695981039346656037u, out.made);
+    for (size_t i = 0; i < 3 * out.vertices; i++) {
+        uint64_t bits;
+        std::memcpy(&bits, &out.points[i], sizeof bits);
+        s = sum(s, bits);
+    }
+    for (size_t i = 0; i < 3 * out.triangles; i++) {
+        s = sum(s, out.corners[i]);
+    }
+    for (size_t i = 0; i < out.triangles; i++) {
+        s = sum(s, out.origins[i]);
+    }
+    return s;
+}
+
 static Case by_number(const char *text) {
     return cases().at(std::strtoul(text, nullptr, 10));
 }
@@ -179,6 +210,13 @@ int main(int argc, char **argv) {
         return once(argv[2], by_number(argv[3]), number(argv[4])) ? 0 : 1;
     } else if (what == "profile" && argc == 4) {
         profile(by_number(argv[2]), number(argv[3]));
+    } else if (what == "results" && argc == 2) {
+        Out out = room();
+        for (const Case &c : cases()) {
+            for (uint32_t code = 0; code < 3; code++) {
+                std::printf("%s %u %016llx\n", c.name.c_str(), code, static_cast<unsigned long long>(result(c, code, out)));
+            }
+        }
     } else if (what == "names" && argc == 2) {
         for (const Case &c : cases()) {
             std::printf("%s\n", c.name.c_str());

@@ -19,7 +19,7 @@ use Rattle.crossings.specs.declared.Crossing.the-variants.{Miss, Cross}
 use Rattle.crossings.specs.Crossings.{points, S, against, lies, first, crossing, paired}
 use Rattle.crossing_counts.specs.declared.Slim.{Slim}
 use Rattle.crossing_counts.specs.declared.Sum.{Sum}
-use Rattle.crossing_counts.specs.Words.{slim, ends, turned, with, gathered, reaches, shade}
+use Rattle.crossing_counts.specs.Words.{slim, ends, turned, with, gathered, counted, reaches, shade}
 
 -- a crossing has a count that is not 0
 abbrev pub Proper : Crossing → Type 0
@@ -78,6 +78,35 @@ shade-of-all cs = go (nonzero (sumOf (S Y) cs))
 
 pub shade-is : (cs : List Crossing) → All Proper cs → shade (gathered (map slim cs)) ≡ S Z (paired Y cs)
 shade-is cs h = ap shade (gathered-is cs h) ∙ shade-of-all cs
+
+-- ---- the sum alone: where it is 0, S is 0 whatever is plus and minus
+with-count : (c : Slim) (g : Sum) → with c g .n ≡ counted c +ℤ g .n
+unfolding with
+with-count c g = go (c .n) (le (c .ay) (c .by))
+  where
+    go : (n : ℤ) (b : Bool) → (cond {A = Sum} (nonzero n) (cond b (record { n = n +ℤ g .n; plus = c; minus = g .minus }) (record { n = g .n; plus = g .plus; minus = c })) g) .n ≡ cond b n (pos 0) +ℤ g .n
+    go (pos zero) true = sym (+ℤ-idl (g .n))
+    go (pos zero) false = sym (+ℤ-idl (g .n))
+    go (pos (suc n)) true = refl
+    go (pos (suc n)) false = sym (+ℤ-idl (g .n))
+    go (negsuc n) true = refl
+    go (negsuc n) false = sym (+ℤ-idl (g .n))
+
+gathered-count : (cs : List Slim) → gathered cs .n ≡ sumOf counted cs
+unfolding gathered sumOf
+gathered-count [] = refl
+gathered-count (c ∷ cs) = with-count c (gathered cs) ∙ ap (λ z. counted c +ℤ z) (gathered-count cs)
+
+pub shade-none : (cs : List Slim) → nonzero (sumOf counted cs) ≡ false → shade (gathered cs) ≡ pos 0
+unfolding shade
+shade-none cs h = rw (gathered-count cs, h)
+
+pub counted-turned : (c : Slim) → counted (turned c) ≡ negℤ (counted c)
+counted-turned c = go (le (c .ay) (c .by))
+  where
+    go : (b : Bool) → cond b (negℤ (c .n)) (pos 0) ≡ negℤ (cond b (c .n) (pos 0))
+    go true = refl
+    go false = refl
 
 -- ---- sizes
 module _ (c : Slim) (g : Sum) where

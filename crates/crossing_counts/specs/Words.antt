@@ -43,6 +43,10 @@ unfoldable pub gathered : List Slim → Sum
 gathered [] = nothing
 gathered (c ∷ cs) = with c (gathered cs)
 
+-- what one adds to the sum
+abbrev pub counted : Slim → ℤ
+counted c = cond (le (c .ay) (c .by)) (c .n) (pos 0)
+
 -- B at least A, by z, at the points of the crossing that they give
 abbrev pub reaches : Sum → Bool
 reaches g =

@@ -54,22 +54,18 @@ pub fn share(plus: f64, minus: f64) -> f64
     plus / (plus - minus)
 }
 
-// p at most v at most m; false at a NaN
+// p at most v at most m; false at a NaN. Both are looked at and nothing branches: which of p and m is the lower is as good as random.
 fn in_order(p: f64, v: f64, m: f64) -> bool
     ensures { λ r. ⌜ r ≡ (le p v && le v m) ⌝ }
 {
-    if p <= v { v <= m } else { false }
+    (p <= v) & (v <= m)
 }
 
 // Does v lie "between p and m, ends included"?
 pub fn between(p: f64, m: f64, v: f64) -> bool
     ensures { λ r. ⌜ r ≡ P.between p m v ⌝ }
 {
-    if in_order(p, v, m) {
-        true
-    } else {
-        in_order(m, v, p)
-    }
+    in_order(p, v, m) | in_order(m, v, p)
 }
 
 // "If the number lies between p and m, ends included, it stands; otherwise p is taken."

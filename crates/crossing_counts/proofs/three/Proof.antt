@@ -1,58 +1,52 @@
--- `three` meets its contract.
-use mathlib.Core.Path.{_≡_, ap, ap₂, _∙_}
+-- `three` meets its contract: where the sum is 0, S is 0.
+use mathlib.Core.Path.{_≡_, sym, ap, ap₂, _∙_}
+use mathlib.Core.List.{[], _∷_}
 use native.Mathlib.Omega.{arith}
+use lib.IntN.{ℤ, pos, _+ℤ_}
 use mir.Syntax.{w32}
 use mir.Val.{toZ, ofZ}
-use Rattle.crossing_counts.specs.Words.{with, gathered, shade, three}
+use Rattle.list_words.specs.Lists.{sumOf, nonzero}
+use Rattle.crossings.proofs.Fits.{zero-not}
+use Rattle.crossing_counts.specs.Words.{turned-if, three}
+use Rattle.crossing_counts.proofs.Slims.{shade-none}
 use borrow.Author.Needs.{needs}
 use Rattle.crossing_counts.proofs.three.Statement.{statement}
 use Rattle.crossing_counts.proofs.three.Tie as tie
 
-nothing-requires : tie.Need-nothing-requires
-nothing-requires c κs = search needs
+counted-if-requires : tie.Need-counted-if-requires
+counted-if-requires c κs = search needs
 
-turned-if-requires : tie.Need-turned-if-requires
-turned-if-requires c κs = search needs
+counted-if-requires-2 : tie.Need-counted-if-requires-2
+counted-if-requires-2 c κs = search needs
 
-with-requires : tie.Need-with-requires
-with-requires c κs = search needs
+counted-if-requires-3 : tie.Need-counted-if-requires-3
+counted-if-requires-3 c κs = search needs
 
-turned-if-requires-2 : tie.Need-turned-if-requires-2
-turned-if-requires-2 c κs = search needs
-
-with-requires-2 : tie.Need-with-requires-2
-with-requires-2 c κs = search needs
-
-turned-if-requires-3 : tie.Need-turned-if-requires-3
-turned-if-requires-3 c κs = search needs
-
-with-requires-3 : tie.Need-with-requires-3
-with-requires-3 c κs = search needs
-
-shade-requires : tie.Need-shade-requires
-shade-requires c κs = search needs
+added-requires : tie.Need-added-requires
+added-requires c κs = search needs
 
 returns : tie.Need-returns
-unfolding gathered three
+unfolding three sumOf
 returns c =
-    let r = c .shade .result in
+    let a = c .before .before .before .before .before .args in
+    let x = c .before .before .before .before .counted-if in
+    let y = c .before .before .before .counted-if2 in
+    let z = c .before .before .counted-if3 in
+    let hx : toZ w32 (ofZ w32 (x .result)) ≡ x .result = search needs in
+    let hy : toZ w32 (ofZ w32 (y .result)) ≡ y .result = search needs in
+    let hz : toZ w32 (ofZ w32 (z .result)) ≡ z .result = search needs in
+    let e = (rw (hx, hy, hz) at (c .before .added .ensures)) ∙ ap₂ _+ℤ_ (x .ensures .0) (ap₂ _+ℤ_ (y .ensures .0) (ap (λ (n : ℤ). n +ℤ pos 0) (z .ensures .0))) in
+    let none = ap nonzero (sym e) ∙ zero-not (c .before .added .result) (search needs) (c .if1 .taken) in
+    (sym (shade-none (turned-if (a .tx) (a .x) ∷ turned-if (a .ty) (a .y) ∷ turned-if (a .tz) (a .z) ∷ []) none), omega arith)
+
+gather-three-requires : tie.Need-gather-three-requires
+gather-three-requires c κs = search needs
+
+returns-2 : tie.Need-returns-2
+returns-2 c =
+    let r = c .gather-three .result in
     let h : toZ w32 (ofZ w32 r) ≡ r = search needs in
-    let w1 = c .before .before .before .before .before .with .ensures in
-    let w2 = c .before .before .before .with2 .ensures in
-    let w3 = c .before .with3 .ensures in
-    let e = w3 .0 ∙ ap₂ with (c .before .before .turned-if3 .ensures .0) (w2 .0 ∙ ap₂ with (c .before .before .before .before .turned-if2 .ensures .0) (w1 .0 ∙ ap₂ with (c .before .before .before .before .before .before .turned-if .ensures .0) (c .before .before .before .before .before .before .before .nothing .ensures .0))) in
-    rw h (c .shade .ensures .0 ∙ ap shade e, omega (arith, c .shade .ensures .1, w1 .1, w2 .1, w3 .1, c .before .before .before .before .before .before .before .nothing .ensures .1))
+    rw h (c .gather-three .ensures)
 
 pub three-spec : {M : Type 1} → statement M
-three-spec =
-    tie.close
-    (tie.spec
-    nothing-requires
-    turned-if-requires
-    with-requires
-    turned-if-requires-2
-    with-requires-2
-    turned-if-requires-3
-    with-requires-3
-    shade-requires
-    returns)
+three-spec = tie.close (tie.spec counted-if-requires counted-if-requires-2 counted-if-requires-3 added-requires returns gather-three-requires returns-2)

@@ -12,11 +12,7 @@ in-order-requires-2 c κs = search needs
 
 returns : tie.Need-returns
 unfolding between
-returns c = rw (← c .before .in-order .ensures, c .if1 .taken)
-
-returns-2 : tie.Need-returns-2
-unfolding between
-returns-2 c = rw (← c .before .before .in-order .ensures, c .before .if1 .left, c .in-order2 .ensures)
+returns c = rw (← c .before .in-order .ensures, ← c .in-order2 .ensures)
 
 pub between-spec : {M : Type 1} → statement M
-between-spec = tie.close (tie.spec in-order-requires in-order-requires-2 returns returns-2)
+between-spec = tie.close (tie.spec in-order-requires in-order-requires-2 returns)
