@@ -36,5 +36,5 @@ pub fn half_pieces(
         let stop = composite::corner(inc, num, halves, plan.sizes, h, 2, against);
         return quiet::two_ends(start, stop, list, to);
     }
-    crossed_pieces::few_pieces(inc, num, first, crossed, halves, plan, marks, h, list, to)
+    crossed_pieces::put_pieces(inc, num, first, crossed, halves, plan, marks, h, list, to)
 }

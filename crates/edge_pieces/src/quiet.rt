@@ -39,5 +39,5 @@ pub fn two_ends(a: End, b: End, list: &mut [u32], at: usize) -> usize
     }; 8];
     all[0] = a;
     all[1] = b;
-    joined_ends::join_few_at(all, 2, list, at)
+    joined_ends::join_at(all, 2, list, at)
 }

@@ -36,7 +36,7 @@ fn pair_pieces(
     all[3] = composite::b_end(first, crossed, halves, plan, f, 3 * m, turn);
     all[4] = composite::b_end(first, crossed, halves, plan, f, 3 * m + 1, turn);
     all[5] = composite::b_end(first, crossed, halves, plan, f, 3 * m + 2, turn);
-    joined_ends::join_few_at(all, 6, list, to)
+    joined_ends::join_at(all, 6, list, to)
 }
 
 // Facet x, which is A's or, from A's facet count on, B's, with facet i of the other solid.

@@ -1,6 +1,6 @@
--- Every end: what is placed after the first i of them, and after all.
+-- Every end: what is placed after the first i of them, and after all; and after some of them and then the rest.
 use mathlib.Core.Path.{_≡_, refl, ap, _∙_}
-use mathlib.Core.List.{List, [], _∷_}
+use mathlib.Core.List.{List, [], _∷_, _++_}
 use Prim.Native.Nat.{ℕ, zero, suc}
 use lib.IntN.{pos}
 use lib.ListN.{length, getD}
@@ -11,6 +11,10 @@ use Rattle.joined_ends.specs.Words.{all-placed}
 
 abbrev pub State : Type 0
 State = List ℕ × Counts
+
+-- from the front of the list on
+abbrev pub joined : List End → List ℕ → State
+joined es l = all-placed (l, record { starts = 0; stops = 0 }) es
 
 -- what would stand beyond the ends
 abbrev pub blank : End
@@ -27,3 +31,7 @@ first-placed e es s (suc i) = ap {B = State} (λ (t : State). placed t (getD es 
 pub placed-to-all : (es : List End) (s : State) → placed-to es s (length es) ≡ all-placed s es
 placed-to-all [] s = refl
 placed-to-all (e ∷ es) s = first-placed e es s (length es) ∙ placed-to-all es (placed s e)
+
+pub placed-append : (s : State) (xs ys : List End) → all-placed s (xs ++ ys) ≡ all-placed (all-placed s xs) ys
+placed-append s [] ys = refl
+placed-append s (e ∷ xs) ys = placed-append (placed s e) xs ys

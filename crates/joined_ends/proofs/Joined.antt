@@ -6,8 +6,8 @@ use Prim.Native.Nat.{ℕ, zero, suc, _+_, _-_, _*_, _/_, _<_, _≤_, min}
 use native.Mathlib.Nat.{add-zero}
 use native.Mathlib.Omega.{arith}
 use native.Mathlib.Decide.{decLt}
-use lib.ListN.{length, getD, set, take, drop, replicate, length-append, length-set, length-take, length-drop, List·getD-append}
-use lib.Seq.{getD-set-same, getD-set-other, getD-at, length-take-le, take-append-le, take-append-add}
+use lib.ListN.{length, getD, set, take, drop, replicate, length-append, length-set, length-drop, take-append-drop, drop-of-length-le, List·getD-append}
+use lib.Seq.{getD-set-same, getD-set-other, getD-at, length-take-le, take-all, take-at, drop-at, take-append-add}
 use Rattle.list_words.specs.Lists.{upTo, above, below}
 use Rattle.list_words.proofs.UpTo.{upTo-first, map-upTo}
 use Rattle.solids.specs.Solids.{Half}
@@ -15,10 +15,10 @@ use Rattle.results.specs.declared.End.{End}
 use Rattle.results.specs.Pieces.{starts, stops, pieces}
 use Rattle.placed_ends.specs.declared.Counts.{Counts}
 use Rattle.placed_ends.specs.Words.{put-once, put-times, placed}
-use Rattle.placed_ends.proofs.Placing.{put-room, put-full}
-use Rattle.joined_ends.specs.Words.{flat, firsts, Behind, all-placed, joined}
+use Rattle.placed_ends.proofs.Placing.{both, put-room, put-full}
+use Rattle.joined_ends.specs.Words.{flat, firsts, Behind, all-placed}
 use Rattle.joined_ends.proofs.Flat.{two-each, numbers-firsts}
-use Rattle.joined_ends.proofs.AllPlaced.{State}
+use Rattle.joined_ends.proofs.AllPlaced.{State, joined, placed-append}
 
 -- ---- two lists, joined place by place
 pub length-zip : {A B : Type 0} (us : List A) (bs : List B) → length (zip us bs) ≡ min (length us) (length bs)
@@ -114,7 +114,7 @@ all-ends {room} {s} {us} {bs} (e ∷ es) h =
 
 -- ---- where there is room for the pieces: how many they are, and that they stand in front
 joined-pieces : (es : List End) (l : List ℕ) (r : ℕ) → length (flat (pieces es)) ≤ length l → r ≡ min (joined es l .1 .starts) (joined es l .1 .stops)
-    → (2 * r ≡ length (flat (pieces es))) × (take (2 * r) (joined es l .0) ≡ flat (pieces es)) × (2 * r ≤ length (joined es l .0))
+    → (2 * r ≡ length (flat (pieces es))) × (take (2 * r) (joined es l .0) ≡ flat (pieces es))
 unfolding pieces firsts
 joined-pieces es l r h q =
     let t = joined es l in
@@ -130,7 +130,7 @@ joined-pieces es l r h q =
     let m : r ≡ length (pieces es) = omega (arith, a .mine .count, a .theirs .count, q, f, n, h) in
     let fit : 2 * r ≤ length (t .0) = omega (arith, a .size, a .mine .count) in
     let e : firsts (t .0) r ≡ pieces es = read es (t .0) r m (λ i j. a .mine .same i (omega arith)) (λ i j. a .theirs .same i (omega arith)) in
-    (rw (f, m), sym (numbers-firsts (t .0) r fit) ∙ ap flat e, fit)
+    (rw (f, m), sym (numbers-firsts (t .0) r fit) ∙ ap flat e)
   where
     read : (es : List End) (l : List ℕ) (r : ℕ) → r ≡ length (zip (starts es) (stops es)) → ((i : ℕ) → i < r → getD l (2 * i + 0) 0 ≡ getD (starts es) i 0)
         → ((i : ℕ) → i < r → getD l (2 * i + 1) 0 ≡ getD (stops es) i 0) → firsts l r ≡ zip (starts es) (stops es)
@@ -139,20 +139,47 @@ joined-pieces es l r h q =
         (λ i j. ap₂ (λ a b. (a, b)) (rw add-zero at (x i j)) (y i j))
         ∙ ap (λ n. map (λ i. (getD (starts es) i 0, getD (stops es) i 0)) (upTo n)) m ∙ zip-places (starts es) (stops es)
 
--- the same where the list is lent from its place `at` on
-pub joined-behind : (es : List End) (o : List ℕ) (at : ℕ) (p : List ℕ) (c : Counts) (r : ℕ) → at + length (flat (pieces es)) ≤ length o
-    → (p ≡ joined es (take (length o - at) (drop at o)) .0) × (c ≡ joined es (take (length o - at) (drop at o)) .1) → r ≡ min (c .starts) (c .stops)
-    → Behind (flat (pieces es)) o at (take at o ++ (p ++ drop (length o - at) (drop at o))) (at + 2 * r)
-joined-behind es o at p c r h e q =
-    let l = take (length o - at) (drop at o) in
-    let rest = drop (length o - at) (drop at o) in
-    let k : length (take at o) ≡ at = length-take-le at o (omega arith) in
-    let n : length (flat (pieces es)) ≤ length l = rw (length-take, length-drop) (omega arith) in
-    let w = joined-pieces es l r n (q ∙ ap (λ (d : Counts). min (d .starts) (d .stops)) (e .1)) in
-    let fit : 2 * r ≤ length p = rw (e .0) (w .2) in
-    record {
-      front =
-          ap (λ m. take (m + 2 * r) (take at o ++ (p ++ rest))) (sym k) ∙ take-append-add (take at o) (p ++ rest) (2 * r)
-          ∙ ap (λ z. take at o ++ z) (take-append-le (2 * r) p rest fit ∙ ap (take (2 * r)) (e .0) ∙ w .1);
-      next = ap (λ m. at + m) (w .0);
-    }
+-- ---- where the list is lent from its place `at` on, once or more than once: the list was `o` and now is `l`, behind the first `at` numbers the ends `es`
+-- are placed, and c counts them
+pub record Laid (o : List ℕ) (at : ℕ) (es : List End) (l : List ℕ) (c : Counts) : Type 0 where
+  pub long : length l ≡ length o
+  pub before : take at l ≡ take at o
+  pub state : (drop at l, c) ≡ joined es (drop at o)
+
+pub laid-none : (o : List ℕ) (at : ℕ) → Laid o at [] o (record { starts = 0; stops = 0 })
+laid-none o at = record { long = refl; before = refl; state = refl }
+
+module _ {o : List ℕ} {at : ℕ} {es : List End} {l : List ℕ} {c : Counts} (h : Laid o at es l c) where
+  -- the rest of the list is lent, some more ends are placed in it, and it is back
+  pub laid-more : (xs : List End) (p : List ℕ) (d : Counts) → at ≤ length o → length p ≡ length (take (length l - at) (drop at l))
+      → (p ≡ all-placed (take (length l - at) (drop at l), c) xs .0) × (d ≡ all-placed (take (length l - at) (drop at l), c) xs .1)
+      → Laid o at (es ++ xs) (take at l ++ (p ++ drop (length l - at) (drop at l))) d
+  laid-more xs p d k m e =
+      let n : length (take at l) ≡ at = length-take-le at l (omega (arith, h .long)) in
+      let whole : take (length l - at) (drop at l) ≡ drop at l = take-all (length l - at) (drop at l) (omega (arith, length-drop at l)) in
+      let none : drop (length l - at) (drop at l) ≡ [] = drop-of-length-le (drop at l) {i = length l - at} (omega (arith, length-drop at l)) in
+      let back : p ++ drop (length l - at) (drop at l) ≡ p = ap (λ z. p ++ z) none ∙ append-nil p in
+      record {
+        long =
+            length-append (take at l) (p ++ drop (length l - at) (drop at l)) ∙ ap (λ z. length (take at l) + length z) back
+            ∙ omega (arith, n, m, ap length whole, length-drop at l, h .long);
+        before = take-at (take at l) (p ++ drop (length l - at) (drop at l)) at n ∙ h .before;
+        state =
+            ap₂ (λ (z : List ℕ) (b : Counts). (z, b)) (drop-at (take at l) (p ++ drop (length l - at) (drop at l)) at n ∙ back ∙ e .0) (e .1)
+            ∙ ap (λ z. all-placed (z, c) xs) whole ∙ ap (λ (s : State). all-placed s xs) (h .state)
+            ∙ sym (placed-append (drop at o, record { starts = 0; stops = 0 }) es xs);
+      }
+
+  -- where there is room for the pieces of all of them
+  pub laid-behind : at + length (flat (pieces es)) ≤ length o → Behind (flat (pieces es)) o at l (at + 2 * min (c .starts) (c .stops))
+  laid-behind k =
+      let r = min (c .starts) (c .stops) in
+      let s = both (h .state) in
+      let n : length (take at l) ≡ at = length-take-le at l (omega (arith, h .long)) in
+      let w = joined-pieces es (drop at o) r (rw length-drop (omega arith)) (ap (λ (d : Counts). min (d .starts) (d .stops)) (s .1)) in
+      record {
+        front =
+            ap (take (at + 2 * r)) (sym (take-append-drop at l)) ∙ ap (λ m. take (m + 2 * r) (take at l ++ drop at l)) (sym n)
+            ∙ take-append-add (take at l) (drop at l) (2 * r) ∙ ap₂ _++_ (h .before) (ap (take (2 * r)) (s .0) ∙ w .1);
+        next = ap (λ m. at + m) (w .0);
+      }

@@ -23,10 +23,7 @@ pub record Behind (ws old : List ℕ) (at : ℕ) (l : List ℕ) (r : ℕ) : Type
   pub front : take r l ≡ take at old ++ ws
   pub next : r ≡ at + length ws
 
--- ---- every end placed, from the front of the list on
+-- ---- every end placed, behind what is placed already
 abbrev pub all-placed : List ℕ × Counts → List End → List ℕ × Counts
 all-placed s [] = s
 all-placed s (e ∷ es) = all-placed (placed s e) es
-
-abbrev pub joined : List End → List ℕ → List ℕ × Counts
-joined es l = all-placed (l, record { starts = 0; stops = 0 }) es

@@ -66,14 +66,14 @@ same-length c = c .before .before .two-ends .kept .1 .1 .0
 returns : tie.Need-returns
 returns c = let p = c .before .before .two-ends in let a = c .before .before .before .before .before .before .before .before .before .before .before .before .before .before .before .before .before .args in subst (λ (ps : List Half). Behind (flat ps) (a .list .now) (a .to) (p .last .1 .1 .0) (p .result)) (whole (c .before .before .before .before)) (p .ensures)
 
-few-pieces-requires : tie.Need-few-pieces-requires
-few-pieces-requires c κs = c .before .before .before .before .before .before .before .before .before .before .before .pre
+put-pieces-requires : tie.Need-put-pieces-requires
+put-pieces-requires c κs = c .before .before .before .before .before .before .before .before .before .before .before .pre
 
 same-length-2 : tie.Need-same-length-2
-same-length-2 c = c .before .before .few-pieces .kept .1 .1 .1 .1 .1 .1 .1 .1 .0
+same-length-2 c = c .before .before .put-pieces .kept .1 .1 .1 .1 .1 .1 .1 .1 .0
 
 returns-2 : tie.Need-returns-2
-returns-2 c = c .before .before .few-pieces .ensures
+returns-2 c = c .before .before .put-pieces .ensures
 
 pub half-pieces-spec : {M : Type 1} → statement M
 half-pieces-spec =
@@ -90,6 +90,6 @@ half-pieces-spec =
     two-ends-requires
     same-length
     returns
-    few-pieces-requires
+    put-pieces-requires
     same-length-2
     returns-2)

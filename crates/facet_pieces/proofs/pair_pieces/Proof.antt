@@ -103,16 +103,16 @@ b-end-requires-3 c κs = let s = c .before .before .before .before .before .befo
 array-set-from-all-6 : tie.Need-array-set-from-all-6
 array-set-from-all-6 c = search needs
 
-join-few-at-requires : tie.Need-join-few-at-requires
-join-few-at-requires c κs = let d = c .before in
+join-at-requires : tie.Need-join-at-requires
+join-at-requires c κs = let d = c .before in
     let a = start d .args in
     (omega arith, subst (λ (ps : List Half). a .to + length (flat ps) ≤ length (a .list .now)) (sym (six-pieces d)) (start d .pre .1))
 
 same-length : tie.Need-same-length
-same-length c = c .before .before .join-few-at .kept .1 .1 .0
+same-length c = c .before .before .join-at .kept .1 .1 .0
 
 returns : tie.Need-returns
-returns c = let j = c .before .before .join-few-at in
+returns c = let j = c .before .before .join-at in
     let d = c .before .before .before .before in
     let a = start d .args in
     subst (λ (ps : List Half). Behind (flat ps) (a .list .now) (a .to) (j .last .1 .1 .0) (j .result)) (six-pieces d) (j .ensures)
@@ -144,6 +144,6 @@ pair-pieces-spec =
     add-b-end-2
     b-end-requires-3
     array-set-from-all-6
-    join-few-at-requires
+    join-at-requires
     same-length
     returns)

@@ -71,7 +71,7 @@ use Rattle.joined_ends.proofs.join.Code as code
 use Rattle.joined_ends.proofs.join.Code.Mir as body
 
 abbrev stayed : Stays (f.ended .signature .params) (f.ended .kept)
-stayed = (stay-dropped _ yes, (stay-slice (1 ∷ []) tt (plain (λ _. u32)), tt))
+stayed = (stay-dropped _ yes, (stay-slice (1 ∷ []) tt (plain (λ _. u32)), (stay-dropped _ yes, tt)))
 
 -- the contract that the proof cites
 abbrev Place : {M : Type 1} (𝓤 : URA M) (H : Heap 𝓤) (A : Atoms 𝓤) (mem : Memory → SProp 𝓤) (run : Routine → Fun 𝓤) → Contract 𝓤
@@ -97,7 +97,7 @@ endVal = LL.val T.the-type T′.the-laws
 abbrev countsVal : Counts → Val
 countsVal = LL.val N.the-type N′.the-laws
 
-module _ {M : Type 1} (𝓤 : URA M) (H : Heap 𝓤) (A : Atoms 𝓤) (W : Given 𝓤 H A) (mem″ : Memory → SProp 𝓤) (run : Routine → Fun 𝓤) (κ κ′ : Lft) (bounds : AllOutlive 2 (f.signature .outlives) (κ, (κ′, tt))) (q q′ : Share) (b o : ℕ) (γ : GName) (es : List End) (b′ o′ : ℕ) (γ′ : GName) (old : List ℕ) where
+module _ {M : Type 1} (𝓤 : URA M) (H : Heap 𝓤) (A : Atoms 𝓤) (W : Given 𝓤 H A) (mem″ : Memory → SProp 𝓤) (run : Routine → Fun 𝓤) (κ κ′ : Lft) (bounds : AllOutlive 2 (f.signature .outlives) (κ, (κ′, tt))) (q q′ : Share) (b o : ℕ) (γ : GName) (es : List End) (b′ o′ : ℕ) (γ′ : GName) (old : List ℕ) (c : Counts) where
   -- the list, under the name δ at the numbers l, and its machine value
   abbrev x : GName → List ℕ → RefT (List ℕ)
   x δ l = record { ptr = (b′, o′); name = δ; now = l }
@@ -108,18 +108,18 @@ module _ {M : Type 1} (𝓤 : URA M) (H : Heap 𝓤) (A : Atoms 𝓤) (W : Given
   abbrev n : ℕ
   n = length es
 
-  abbrev a : RefT (List End) × (RefT (List ℕ) × Unit {0})
-  a = (record { ptr = (b, o); name = γ; now = es }, (x γ′ old, tt))
+  abbrev a : RefT (List End) × (RefT (List ℕ) × (Counts × Unit {0}))
+  a = (record { ptr = (b, o); name = γ; now = es }, (x γ′ old, (c, tt)))
 
   abbrev at : Vals f.signature (κ, (κ′, tt))
-  at = (sliceVal (b, o) n ∷ [], (s old ∷ [], tt))
+  at = (sliceVal (b, o) n ∷ [], (s old ∷ [], (countsVal c ∷ [], tt)))
 
   abbrev Post : Val → SProp 𝓤
   Post = walkOf 𝓤 H A f.ended stayed (f.clauses 𝓤 H A mem″ run) .post (((κ, (κ′, tt)), (q, (q′, tt)), bounds, a, at), tt)
 
   -- the list and the counts after i ends
   abbrev S : ℕ → State
-  S i = placed-to es (old, record { starts = 0; stops = 0 }) i
+  S i = placed-to es (old, c) i
 
   abbrev Seen : Fml
   Seen = fshr-bor κ (λ t. arr-parts (shares T.the-row) n .part t es b o)
@@ -135,17 +135,17 @@ module _ {M : Type 1} (𝓤 : URA M) (H : Heap 𝓤) (A : Atoms 𝓤) (W : Given
   Whole l = MutSlice (named 1) κ′ u32 .own (x γ′ l) (s old ∷ [])
 
   abbrev OwnCounts : Counts → Fml
-  OwnCounts c = N.the-row .own c (countsVal c ∷ [])
+  OwnCounts d = N.the-row .own d (countsVal d ∷ [])
 
   exits : length (S n .0) ≡ length old → ent 𝓤 (⋆ 𝓤 H A (‵ (flft κ q) ∷ ‵ (flft κ′ q′) ∷ ‵ (Whole (S n .0)) ∷ ‵ (OwnCounts (S n .1)) ∷ [])) (Post (countsVal (S n .1)))
   exits el =
       qed W (‵ (flft κ q) ∷ ‵ (flft κ′ q′) ∷ ‵ (Whole (S n .0)) ∷ ‵ (OwnCounts (S n .1)) ∷ []) ∵
-      suffices ! _ (ends-at 𝓤 H A f.ended stayed (f.clauses 𝓤 H A mem″ run) W (((κ, (κ′, tt)), (q, (q′, tt)), bounds, a, at), tt) (countsVal (S n .1)) (S n .1) (tt, (S n .0, tt)) (tt, (el, tt))) $
-      says ! (both (placed-to-all es (old, record { starts = 0; stops = 0 }))) $
+      suffices ! _ (ends-at 𝓤 H A f.ended stayed (f.clauses 𝓤 H A mem″ run) W (((κ, (κ′, tt)), (q, (q′, tt)), bounds, a, at), tt) (countsVal (S n .1)) (S n .1) (tt, (S n .0, (tt, tt))) (tt, (el, (tt, tt)))) $
+      says ! (both (placed-to-all es (old, c))) $
       nothing ! $ move ! (2 ∷ 0 ∷ []) $ join ! $ move ! (1 ∷ 0 ∷ []) $ join ! $ frame ! $
-      nothing ! $ move ! (1 ∷ 0 ∷ []) $ fjoin ! $ nothing ! $ fjoin ! $ done !
+      nothing ! $ nothing ! $ fjoin ! $ move ! (1 ∷ 0 ∷ []) $ fjoin ! $ nothing ! $ fjoin ! $ done !
 
-  module _ (𝓣 : Tables 𝓤 H) (known : Triple 𝓤 (𝓣 .C #place-end) (Place 𝓤 H A mem″ run)) (ge : Room T.the-row n) (gp : Room u32 (length old)) where
+  module _ (𝓣 : Tables 𝓤 H) (known : Triple 𝓤 (𝓣 .C #place-end) (Place 𝓤 H A mem″ run)) (ge : Room T.the-row n) (gp : Room u32 (length old)) (ic : Is N.the-row c (countsVal c ∷ [])) where
     module _ (l₀ l₁ l₂ l₃ l₄ l₅ l₆ l₇ l₈ l₉ l₁₀ : ℕ) where
       abbrev En : Env 𝓤 H
       En = (N′.mir, l₀) ∷ (endsTy, l₁) ∷ (listTy, l₂) ∷ (N′.mir, l₃) ∷ (word, l₄) ∷ (word, l₅) ∷ (tyBool, l₆) ∷ (refTy, l₇) ∷ (sliceTy refTy, l₈) ∷ (tyPtr, l₉) ∷ (T′.mir, l₁₀) ∷ []
@@ -163,7 +163,7 @@ module _ {M : Type 1} (𝓤 : URA M) (H : Heap 𝓤) (A : Atoms 𝓤) (W : Given
 
       -- when the loop is left, the rest of the body runs
       abbrev Left : Out → SProp 𝓤
-      Left = afterBlock 𝓤 H (afterSeq 𝓤 H (Wp 𝓤 H (𝓣 .C) (𝓣 .Λ) En body.t-4 (atReturn 𝓤 H En Post)) (atReturn 𝓤 H En Post))
+      Left = afterBlock 𝓤 H (afterSeq 𝓤 H (Wp 𝓤 H (𝓣 .C) (𝓣 .Λ) En body.t-3 (atReturn 𝓤 H En Post)) (atReturn 𝓤 H En Post))
 
       more : (i : ℕ) (X : SProp 𝓤) → i < n → ent 𝓤 (⋆ 𝓤 H A (At (suc i))) X → ent 𝓤 (⋆ 𝓤 H A (At i)) (Wp 𝓤 H (𝓣 .C) (𝓣 .Λ) En body.turn-1 (afterTurn 𝓤 H X Left))
       unfolding afterTurn
@@ -198,9 +198,9 @@ module _ {M : Type 1} (𝓤 : URA M) (H : Heap 𝓤) (A : Atoms 𝓤) (W : Given
           split ! $ move ! (1 ∷ []) $ heard ! ((zs .0 ≡ S (suc i) .0) × (r ≡ S (suc i) .1)) (λ eq. fsplit ! $ fsplit ! $ move ! (1 ∷ []) $ feqL ! (λ l.
           move ! (2 ∷ []) $ split ! $ move ! (1 ∷ []) $ peeks ! N.the-row (Is N.the-row) (shows 𝓤 H A N.the-row) r (w ∷ []) (λ ir.
           -- [the counts; ν's token; the list's last numbers; …; the loan; κ's token; the ends; the open list; _4; _3; _5; …]
-          rewrite ! 0 (λ (us : List Val). ‵ (N.the-row .own r us)) (LL.tells N.the-type N′.the-laws r (w ∷ []) ir) refl $ rewrite ! 0 (λ (c : Counts). ‵ (OwnCounts c)) (eq .1) refl $
+          rewrite ! 0 (λ (us : List Val). ‵ (N.the-row .own r us)) (LL.tells N.the-type N′.the-laws r (w ∷ []) ir) refl $ rewrite ! 0 (λ (d : Counts). ‵ (OwnCounts d)) (eq .1) refl $
           land ! (from ! (stop !)) (store ! 9 refl (LL.lawful N.the-type N′.the-laws 𝓤 H A W .typed r _ ir .0)) $
-          rewrite ! 9 (λ (u : Val). ‵ (fat fullShare N′.mir l₃ 0 u)) (ap only (LL.tells N.the-type N′.the-laws r (w ∷ []) ir)) refl $ rewrite ! 9 (λ (c : Counts). ‵ (fat fullShare N′.mir l₃ 0 (countsVal c))) (eq .1) refl $
+          rewrite ! 9 (λ (u : Val). ‵ (fat fullShare N′.mir l₃ 0 u)) (ap only (LL.tells N.the-type N′.the-laws r (w ∷ []) ir)) refl $ rewrite ! 9 (λ (d : Counts). ‵ (fat fullShare N′.mir l₃ 0 (countsVal d))) (eq .1) refl $
           -- the lifetime is ended, and the numbers come back as they are now
           move ! (1 ∷ []) $ split ! $ lft-end ! tt $ move ! (0 ∷ 5 ∷ 3 ∷ []) $
           use3 W (later (‵ (Arr (mem u32) (length (S i .0)) .lies (zs .0) b′ o′))) (slice-back 𝓤 H A W u32 (ν ∷ []) δ (zs .0) (length (S i .0)) b′ o′) $ await ! tt $ fsplit ! $ drop ! $
@@ -233,7 +233,7 @@ module _ {M : Type 1} (𝓤 : URA M) (H : Heap 𝓤) (A : Atoms 𝓤) (W : Given
           assigns ! (of-opd ! (load ! (from ! (fld ! refl (stop !))) (look-in ! 13 (sub ! 1 refl (whole !))))) (from ! (stop !)) (init ! 7 refl (tt, record { fits = ge .0 })) $
           assigns ! (bin ! (load ! (from ! (stop !)) (look ! 5 refl)) (load ! (from ! (stop !)) (look ! 7 refl)) tt) (from ! (stop !)) (init ! 8 refl (tt, tt)) $
           rewrite ! 8 (λ (t : Bool). ‵ (fat fullShare tyBool l₆ 0 (vbool t))) (le-ltb n n (le-refl n)) refl $
-          leaves-loop ! (load ! (from ! (stop !)) (look ! 8 refl)) $ exec ! (𝓣 .C) (𝓣 .Λ) En body.t-4 (atRet En Post) $
+          leaves-loop ! (load ! (from ! (stop !)) (look ! 8 refl)) $ exec ! (𝓣 .C) (𝓣 .Λ) En body.t-3 (atRet En Post) $
           -- the list is closed
           use1 W (‵ (row u32 fullShare (S n .0) b′ o′)) (whole-out 𝓤 H A W u32 (S n .0) b′ o′) $ move ! (1 ∷ []) $ fsplit ! $ move ! (1 ∷ []) $ fsplit ! $ move ! (3 ∷ 2 ∷ 0 ∷ 1 ∷ []) $ closes-slice ! tt u32 old (S n .0) el b′ o′ $
           fjoin ! $ pureI ! (at-slice u32 (x γ′ (S n .0)) (s old ∷ [])) (tt, (tt, tt)) (ap (λ (m : ℕ). sliceVal (b′, o′) m ∷ []) (sym el), subst (Room u32) (sym el) gp) $ fjoin ! $
@@ -262,36 +262,36 @@ module _ {M : Type 1} (𝓤 : URA M) (H : Heap 𝓤) (A : Atoms 𝓤) (W : Given
           loops ! 𝓣 _<_ (Nat·lt-wfRel .wf) I (λ t. learn ! (λ le. drop ! $ by ! (turn-at t le))) n)
 
       -- the MIR up to the loop: apart from the walk's start, since one term of both would be past the prover's step limit
-      begun : Sq W (‵ (Whole old) ∷ ‵ (flft κ′ q′) ∷ ‵ Seen ∷ ‵ (flft κ q) ∷ ‵ (froom word l₄ 0) ∷ ‵ (froom N′.mir l₃ 0) ∷ Rest) (runs (𝓣 .C) (𝓣 .Λ) En body.t-1 (atRet En Post))
+      begun : Sq W (‵ (Whole old) ∷ ‵ (flft κ′ q′) ∷ ‵ Seen ∷ ‵ (flft κ q) ∷ ‵ (OwnCounts c) ∷ ‵ (froom word l₄ 0) ∷ ‵ (fat fullShare N′.mir l₃ 0 (countsVal c)) ∷ Rest) (runs (𝓣 .C) (𝓣 .Λ) En body.t-1 (atRet En Post))
       begun =
           -- the list is opened
           fsplit ! $ drop ! $ fsplit ! $ opens-slice ! tt u32 old b′ o′ $ use1 W (‵ (Numbers old)) (whole-in 𝓤 H A W u32 old b′ o′) $ move ! (2 ∷ 3 ∷ []) $ fjoin ! $ move ! (2 ∷ 0 ∷ []) $ fjoin ! $ move ! (1 ∷ []) $
-          assigns ! (agg ! (and-then ! (lit ! tt) (and-then ! (lit ! tt) (no-more !)))) (from ! (stop !)) (init ! 5 refl (tt, (record { fits = lit< tt }, (record { fits = lit< tt }, tt)))) $
-          assigns ! (of-opd ! (lit ! tt)) (from ! (stop !)) (init ! 4 refl (tt, record { fits = lit< tt })) $
-          owned ! N.the-row (Is N.the-row) (LL.makes N.the-type N′.the-plain 𝓤 H A) (record { starts = 0; stops = 0 }) _ (LL.owes N.the-type N′.the-laws (record { starts = 0; stops = 0 }) ((refl, lit< tt), ((refl, lit< tt), tt))) $
-          move ! (1 ∷ 2 ∷ 3 ∷ 4 ∷ []) $ use1 W (given (length old ≡ length old) (‵ (Numbers old))) (guardI 𝓤 (length old ≡ length old) _ refl) $
+          assigns ! (of-opd ! (lit ! tt)) (from ! (stop !)) (init ! 5 refl (tt, record { fits = lit< tt })) $
+          use1 W (given (length old ≡ length old) (‵ (Numbers old))) (guardI 𝓤 (length old ≡ length old) _ refl) $
           first ! $ blocks ! $ looped
 
     -- the locals and the parameters
-    walk : ent 𝓤 (onEntry 𝓤 H A f.signature (κ, (κ′, tt)) (q, (q′, tt)) a at) (WpFn 𝓤 H (𝓣 .C) (𝓣 .Λ) code.function (sliceVal (b, o) n ∷ s old ∷ []) Post)
+    walk : ent 𝓤 (onEntry 𝓤 H A f.signature (κ, (κ′, tt)) (q, (q′, tt)) a at) (WpFn 𝓤 H (𝓣 .C) (𝓣 .Λ) code.function (sliceVal (b, o) n ∷ s old ∷ countsVal c ∷ []) Post)
     walk =
-        qed W ((‵ (flft κ q) ⊛ ‵ (flft κ′ q′) ⊛ ‵ ftrue) ∷ ‵ (owns (ShrSlice (named 0) κ T.the-row ∷ MutSlice (named 1) κ′ u32 ∷ []) a at) ∷ []) ∵
-        split ! $ move ! (1 ∷ []) $ split ! $ move ! (3 ∷ []) $ fsplit ! $ fsplit ! $ drop ! $ fsplit ! $ drop ! $ move ! (1 ∷ []) $ fsplit ! $ keep ! (0 ∷ 3 ∷ 2 ∷ 5 ∷ []) $
-        -- [the list; κ′'s token; the ends; κ's token]
-        enter ! (𝓣 .C) (𝓣 .Λ) code.function (sliceVal (b, o) n ∷ s old ∷ []) _ $
+        qed W ((‵ (flft κ q) ⊛ ‵ (flft κ′ q′) ⊛ ‵ ftrue) ∷ ‵ (owns (ShrSlice (named 0) κ T.the-row ∷ MutSlice (named 1) κ′ u32 ∷ N.the-row ∷ []) a at) ∷ []) ∵
+        split ! $ move ! (1 ∷ []) $ split ! $ move ! (3 ∷ []) $ fsplit ! $ fsplit ! $ drop ! $ fsplit ! $ drop ! $ move ! (1 ∷ []) $ fsplit ! $ move ! (1 ∷ []) $ fsplit ! $ keep ! (2 ∷ 4 ∷ 3 ∷ 6 ∷ 0 ∷ []) $
+        -- [the list; κ′'s token; the ends; κ's token; the counts]
+        enter ! (𝓣 .C) (𝓣 .Λ) code.function (sliceVal (b, o) n ∷ s old ∷ countsVal c ∷ []) _ $
         alloc1 ! (λ l₀. alloc1 ! (λ l₁. alloc1 ! (λ l₂. alloc1 ! (λ l₃. alloc1 ! (λ l₄. alloc1 ! (λ l₅. alloc1 ! (λ l₆. alloc1 ! (λ l₇. alloc1 ! (λ l₈. alloc1 ! (λ l₉. alloc1 ! (λ l₁₀. alloc0 ! $ params1 ! $
-        pass1 ! (init ! 18 refl (tt, (tt, (record { fits = ge .0 }, tt)))) $ pass1 ! (init ! 16 refl (tt, (tt, (record { fits = gp .0 }, tt)))) $ pass0 ! $
-        move ! (22 ∷ 23 ∷ 24 ∷ 25 ∷ 12 ∷ 14 ∷ 10 ∷ 8 ∷ 6 ∷ 4 ∷ 2 ∷ 0 ∷ 18 ∷ 16 ∷ 20 ∷ 21 ∷ 19 ∷ 17 ∷ 15 ∷ 13 ∷ 11 ∷ 9 ∷ 7 ∷ 5 ∷ 3 ∷ 1 ∷ []) $ begun l₀ l₁ l₂ l₃ l₄ l₅ l₆ l₇ l₈ l₉ l₁₀)))))))))))
+        pass1 ! (init ! 18 refl (tt, (tt, (record { fits = ge .0 }, tt)))) $ pass1 ! (init ! 16 refl (tt, (tt, (record { fits = gp .0 }, tt)))) $
+        pass1 ! (init ! 14 refl (LL.lawful N.the-type N′.the-laws 𝓤 H A W .typed c _ ic .0)) $ pass0 ! $
+        move ! (22 ∷ 23 ∷ 24 ∷ 25 ∷ 26 ∷ 12 ∷ 14 ∷ 10 ∷ 8 ∷ 6 ∷ 4 ∷ 2 ∷ 0 ∷ 18 ∷ 16 ∷ 20 ∷ 21 ∷ 19 ∷ 17 ∷ 15 ∷ 13 ∷ 11 ∷ 9 ∷ 7 ∷ 5 ∷ 3 ∷ 1 ∷ []) $ begun l₀ l₁ l₂ l₃ l₄ l₅ l₆ l₇ l₈ l₉ l₁₀)))))))))))
 
 module _ {M : Type 1} (𝓤 : URA M) (H : Heap 𝓤) (A : Atoms 𝓤) (W : Given 𝓤 H A) (mem″ : Memory → SProp 𝓤) (run : Routine → Fun 𝓤) (𝓣 : Tables 𝓤 H) (known : Triple 𝓤 (𝓣 .C #place-end) (Place 𝓤 H A mem″ run)) where
   walks : Walks 𝓤 H A f.ended stayed (WpFn 𝓤 H (𝓣 .C) (𝓣 .Λ) code.function) (f.clauses 𝓤 H A mem″ run)
-  walks = walked 𝓤 H A f.ended stayed (f.clauses 𝓤 H A mem″ run) (WpFn 𝓤 H (𝓣 .C) (𝓣 .Λ) code.function) (λ κs. (slice-vals, (slice-vals, tt))) (λ κs. (shr-slice-tells (named 0) (κs .0) T.the-row, (mut-slice-tells (named 1) (κs .1 .0) u32, tt)))
+  walks = walked 𝓤 H A f.ended stayed (f.clauses 𝓤 H A mem″ run) (WpFn 𝓤 H (𝓣 .C) (𝓣 .Λ) code.function)
+      (λ κs. (slice-vals, (slice-vals, (LL.vals N.the-type N′.the-laws, tt)))) (λ κs. (shr-slice-tells (named 0) (κs .0) T.the-row, (mut-slice-tells (named 1) (κs .1 .0) u32, (LL.tells N.the-type N′.the-laws, tt))))
       (λ κs qs bounds a _ are. via 𝓤 _ (fst∗ 𝓤 _ (emp 𝓤))
-      (walk 𝓤 H A W mem″ run (κs .0) (κs .1 .0) bounds (qs .0) (qs .1 .0) (a .0 .ptr .0) (a .0 .ptr .1) (a .0 .name) (a .0 .now) (a .1 .0 .ptr .0) (a .1 .0 .ptr .1) (a .1 .0 .name) (a .1 .0 .now) 𝓣 known (are .0 .0 .1) (are .1 .0 .0 .1)))
+      (walk 𝓤 H A W mem″ run (κs .0) (κs .1 .0) bounds (qs .0) (qs .1 .0) (a .0 .ptr .0) (a .0 .ptr .1) (a .0 .name) (a .0 .now) (a .1 .0 .ptr .0) (a .1 .0 .ptr .1) (a .1 .0 .name) (a .1 .0 .now) (a .1 .1 .0) 𝓣 known (are .0 .0 .1) (are .1 .0 .0 .1) (are .1 .1 .0)))
 
   meets : Meets 𝓤 H A f.signature (WpFn 𝓤 H (𝓣 .C) (𝓣 .Λ) code.function) (f.spec 𝓤 H A mem″ run)
   meets =
-      walk-meets 𝓤 H A f.ended stayed W (goes-dropped 𝓤 H A W 2 (shrSliceOf (0 ∷ []) tt (plain (λ _. T.the-row))) yes (λ κs x f. refl), (goes-slice 𝓤 H A W 2 1 tt (plain (λ _. u32)), tt)) (f.clauses 𝓤 H A mem″ run)
+      walk-meets 𝓤 H A f.ended stayed W (goes-dropped 𝓤 H A W 2 (shrSliceOf (0 ∷ []) tt (plain (λ _. T.the-row))) yes (λ κs x f. refl), (goes-slice 𝓤 H A W 2 1 tt (plain (λ _. u32)), (goes-dropped 𝓤 H A W 2 (plain (λ _. N.the-row)) yes (λ κs x f. refl), tt))) (f.clauses 𝓤 H A mem″ run)
       (WpFn 𝓤 H (𝓣 .C) (𝓣 .Λ) code.function) (WpFn-mono 𝓤 H (W .laws) 𝓣 code.function) walks
 
 pub join-spec : {M : Type 1} → stated.statement M

@@ -1,12 +1,11 @@
 -- `join_at` meets its contract: as many pieces as the side that has fewer.
-use mathlib.Core.Path.{refl}
 use mathlib.Core.List.{_++_}
 use Prim.Native.Nat.{_+_, _-_, _*_, min}
 use native.Mathlib.Omega.{arith}
 use lib.ListN.{length, take, drop}
 use Rattle.results.specs.Pieces.{pieces}
 use Rattle.joined_ends.specs.Words.{flat, Behind}
-use Rattle.joined_ends.proofs.Joined.{joined-behind}
+use Rattle.joined_ends.proofs.Joined.{laid-none, laid-more, laid-behind}
 use borrow.Author.Needs.{needs}
 use Rattle.joined_ends.proofs.join_at.Statement.{statement}
 use Rattle.joined_ends.proofs.join_at.Tie as tie
@@ -17,7 +16,7 @@ found c =
     let j = c .before .before .join-first in
     let s = c .before .before .before .before .before in
     let a = s .args in
-    joined-behind (take (a .n) (a .all)) (a .list .now) (a .at) (j .last .1 .1 .0) (j .result) (min (j .result .starts) (j .result .stops)) (s .pre .1) (j .ensures) refl
+    laid-behind (laid-more (laid-none (a .list .now) (a .at)) (take (a .n) (a .all)) (j .last .1 .1 .0) (j .result) (omega (arith, s .pre .1)) (j .kept .1 .1 .0) (j .ensures)) (s .pre .1)
 
 mul-join-first : tie.Need-mul-join-first
 mul-join-first c = search needs

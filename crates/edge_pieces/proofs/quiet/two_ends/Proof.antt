@@ -61,14 +61,14 @@ array-set-from-all c = search needs
 array-set-from-all-2 : tie.Need-array-set-from-all-2
 array-set-from-all-2 c = search needs
 
-join-few-at-requires : tie.Need-join-few-at-requires
-join-few-at-requires c κs = (omega arith, c .before .before .before .before .before .before .before .before .before .before .before .pre)
+join-at-requires : tie.Need-join-at-requires
+join-at-requires c κs = (omega arith, c .before .before .before .before .before .before .before .before .before .before .before .pre)
 
 same-length-3 : tie.Need-same-length-3
-same-length-3 c = c .before .before .join-few-at .kept .1 .1 .0
+same-length-3 c = c .before .before .join-at .kept .1 .1 .0
 
 returns-4 : tie.Need-returns-4
-returns-4 c = c .before .before .join-few-at .ensures
+returns-4 c = c .before .before .join-at .ensures
 
 pub two-ends-spec : {M : Type 1} → statement M
 two-ends-spec =
@@ -83,6 +83,6 @@ two-ends-spec =
     returns-3
     array-set-from-all
     array-set-from-all-2
-    join-few-at-requires
+    join-at-requires
     same-length-3
     returns-4)
