@@ -1,10 +1,12 @@
 -- `sign` meets its contract: it is one of the operation's three numbers.
-use mathlib.Core.Path.{_≡_, refl, ap}
+use mathlib.Core.Path.{_≡_, refl, sym, ap, subst, _∙_}
 use mathlib.Core.Bool.{true}
 use Prim.Native.Nat.{_≤_}
 use native.Mathlib.Omega.{arith}
 use borrow.Author.Needs.{needs}
-use lib.IntN.{natAbs}
+use lib.IntN.{ℤ, natAbs}
+use mir.Syntax.{w32}
+use mir.Val.{toZ, ofZ}
 use Rattle.list_words.specs.Lists.{nonzero}
 use Rattle.list_words.proofs.Widths.{back-32}
 use Rattle.results.specs.declared.Operation.{Operation}
@@ -25,9 +27,9 @@ numbers-requires c κs = search needs
 returns : tie.Need-returns
 returns c =
     let op = c .before .before .args .op in
-    let e = ap (λ (n : Numbers). n .«c_i») (c .before .numbers .ensures) in
     let o = one op in
-    rw (e, back-32 (cI op) (omega (arith, o .0))) ((refl, o))
+    let e = ap (λ (n : Numbers). toZ w32 (ofZ w32 (n .«c_i»))) (c .before .numbers .ensures) ∙ back-32 (cI op) (omega (arith, o .0)) in
+    (e, subst (λ (n : ℤ). (natAbs n ≤ 1) × (nonzero n ≡ true)) (sym e) o)
 
 pub sign-spec : {M : Type 1} → statement M
 sign-spec = tie.close (tie.spec numbers-requires returns)
