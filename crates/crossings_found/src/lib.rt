@@ -44,7 +44,7 @@ fn find_kind(
     let mut columns = [0u32; 384];
     let mut boxes = [0.0f64; 2304];
     let thing = search.thing;
-    let near = box_lists::gather(
+    let many = box_lists::gather(
         Far::Apart,
         own,
         thing,
@@ -55,33 +55,11 @@ fn find_kind(
         &mut columns,
         &mut boxes,
     );
-    let near_columns = &columns[..near];
-    if near <= bounds::GROUP {
-        crossing_groups::find_rows(
-            search,
-            ap,
-            ac,
-            bp,
-            bc,
-            ends,
-            near_columns,
-            &boxes,
-            first,
-            crossed,
-        )
+    let near = &columns[..many];
+    if many <= bounds::GROUP {
+        crossing_groups::find_rows(search, ap, ac, bp, bc, ends, near, &boxes, first, crossed)
     } else {
-        crossing_groups::find_groups(
-            search,
-            ap,
-            ac,
-            bp,
-            bc,
-            ends,
-            near_columns,
-            &boxes,
-            first,
-            crossed,
-        )
+        crossing_groups::find_groups(search, ap, ac, bp, bc, ends, near, &boxes, first, crossed)
     }
 }
 

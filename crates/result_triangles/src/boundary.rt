@@ -52,42 +52,12 @@ fn round(
     requires { ⌜ to + length (flat (T.round (K.dense (plan .sizes) (now inc) (now num) (K.rows (now first) (now crossed) (plan .base))) (now halves) (plan .sizes) x)) ≤ length (now list) ⌝ }
     ensures { λ r. ⌜ Behind (flat (T.round (K.dense (plan .sizes) (now (inc .entry)) (now (num .entry)) (K.rows (now (first .entry)) (now (crossed .entry)) (plan .base))) (now (halves .entry)) (plan .sizes) x)) (now (list .entry)) to (now (list .exit)) r ⌝ }
 {
-    let p = edge_pieces::half_pieces(
-        inc,
-        num,
-        first,
-        crossed,
-        halves,
-        plan,
-        marks,
-        3 * x,
-        list,
-        to,
-    );
-    let q = edge_pieces::half_pieces(
-        inc,
-        num,
-        first,
-        crossed,
-        halves,
-        plan,
-        marks,
-        3 * x + 1,
-        list,
-        p,
-    );
-    edge_pieces::half_pieces(
-        inc,
-        num,
-        first,
-        crossed,
-        halves,
-        plan,
-        marks,
-        3 * x + 2,
-        list,
-        q,
-    )
+    let h = 3 * x;
+    let p = edge_pieces::half_pieces(inc, num, first, crossed, halves, plan, marks, h, list, to);
+    let i = h + 1;
+    let q = edge_pieces::half_pieces(inc, num, first, crossed, halves, plan, marks, i, list, p);
+    let j = h + 2;
+    edge_pieces::half_pieces(inc, num, first, crossed, halves, plan, marks, j, list, q)
 }
 
 pub fn boundary(

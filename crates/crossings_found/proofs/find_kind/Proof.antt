@@ -72,8 +72,8 @@ gather-requires c κs =
 array-share-prefix-columns : tie.Need-array-share-prefix-columns
 array-share-prefix-columns c = search needs
 
-slice-aggregate-near-columns : tie.Need-slice-aggregate-near-columns
-slice-aggregate-near-columns c = sym (length-take-le (c .before .before .before .gather .result) _ (c .before .before .before .gather .ensures .0 .room))
+slice-aggregate-near : tie.Need-slice-aggregate-near
+slice-aggregate-near c = sym (length-take-le (c .before .before .before .gather .result) _ (c .before .before .before .gather .ensures .0 .room))
 
 slice-aggregate-find-rows : tie.Need-slice-aggregate-find-rows
 slice-aggregate-find-rows c = search needs
@@ -126,7 +126,7 @@ find-kind-spec =
     slice-aggregate-gather-2
     gather-requires
     array-share-prefix-columns
-    slice-aggregate-near-columns
+    slice-aggregate-near
     slice-aggregate-find-rows
     find-rows-requires
     slice-aggregate-find-groups

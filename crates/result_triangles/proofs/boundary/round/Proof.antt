@@ -30,17 +30,14 @@ room s =
     let d = length-numbers (H s (3 * x + 1)) (H s (3 * x + 2)) in
     omega (arith, e, d, s .pre .1)
 
-mul-half-pieces : tie.Need-mul-half-pieces
-mul-half-pieces c = let s = c .before .before .before .before .before .before in record { fits = omega (arith, s .pre .0 .2, s .pre .0 .0 .halves .sized .fa, s .pre .0 .0 .halves .sized .fb) }
+mul-h : tie.Need-mul-h
+mul-h c = let s = c .before .before .before .before .before .before in record { fits = omega (arith, s .pre .0 .2, s .pre .0 .0 .halves .sized .fa, s .pre .0 .0 .halves .sized .fb) }
 
 half-pieces-requires : tie.Need-half-pieces-requires
 half-pieces-requires c κs = let s = c .before .before .before .before .before .before .before in ((s .pre .0 .0, s .pre .0 .1, omega (arith, s .pre .0 .2)), rw (same s (3 * s .args .x) (omega (arith, s .pre .0 .2))) (omega (arith, room s)))
 
-mul-half-pieces-2 : tie.Need-mul-half-pieces-2
-mul-half-pieces-2 c = let s = c .before .before .before .before .before .before .before .before .before .before in record { fits = omega (arith, s .pre .0 .2, s .pre .0 .0 .halves .sized .fa, s .pre .0 .0 .halves .sized .fb) }
-
-add-half-pieces : tie.Need-add-half-pieces
-add-half-pieces c = let s = c .before .before .before .before .before .before .before .before .before .before in record { fits = omega (arith, s .pre .0 .2, s .pre .0 .0 .halves .sized .fa, s .pre .0 .0 .halves .sized .fb) }
+add-i : tie.Need-add-i
+add-i c = let s = c .before .before .before .before .before .before .before .before .before .before in record { fits = omega (arith, s .pre .0 .2, s .pre .0 .0 .halves .sized .fa, s .pre .0 .0 .halves .sized .fb) }
 
 -- what stands there after each of the first two
 abbrev first-of : tie.After-half-pieces → tie.Start
@@ -55,11 +52,8 @@ half-pieces-requires-2 c κs =
     let s = first-of h in
     ((s .pre .0 .0, s .pre .0 .1, omega (arith, s .pre .0 .2)), rw (same s (3 * s .args .x + 1) (omega (arith, s .pre .0 .2))) (omega (arith, room s, next-1 h, h .half-pieces .kept .1 .1 .1 .1 .1 .1 .1 .1 .0)))
 
-mul-half-pieces-3 : tie.Need-mul-half-pieces-3
-mul-half-pieces-3 c = let s = c .before .before .before .before .before .before .before .before .before .before .before .before .before .before in record { fits = omega (arith, s .pre .0 .2, s .pre .0 .0 .halves .sized .fa, s .pre .0 .0 .halves .sized .fb) }
-
-add-half-pieces-2 : tie.Need-add-half-pieces-2
-add-half-pieces-2 c = let s = c .before .before .before .before .before .before .before .before .before .before .before .before .before .before in record { fits = omega (arith, s .pre .0 .2, s .pre .0 .0 .halves .sized .fa, s .pre .0 .0 .halves .sized .fb) }
+add-j : tie.Need-add-j
+add-j c = let s = c .before .before .before .before .before .before .before .before .before .before .before .before .before .before in record { fits = omega (arith, s .pre .0 .2, s .pre .0 .0 .halves .sized .fa, s .pre .0 .0 .halves .sized .fb) }
 
 half-pieces-requires-3 : tie.Need-half-pieces-requires-3
 half-pieces-requires-3 c κs =
@@ -92,13 +86,11 @@ pub round-spec : {M : Type 1} → statement M
 round-spec =
     tie.close
     (tie.spec
-    mul-half-pieces
+    mul-h
     half-pieces-requires
-    mul-half-pieces-2
-    add-half-pieces
+    add-i
     half-pieces-requires-2
-    mul-half-pieces-3
-    add-half-pieces-2
+    add-j
     half-pieces-requires-3
     same-length
     returns)
