@@ -130,6 +130,11 @@ static void put_corners(list corners, size_t i) {
     printf(" %u %u %u", c[0], c[1], c[2]);
 }
 
+/* ANSWER WHO PLACE, with which a first line begins. */
+static void put_answer(ozoravesh_answer a) {
+    printf("%u %c %zu", a.number, "-ABSP"[a.who], a.place);
+}
+
 static void answer_op(void) {
     uint32_t code = (uint32_t)decimal();
     list ap = floats("ap");
@@ -143,7 +148,8 @@ static void answer_op(void) {
     ozoravesh_made m = ozoravesh_operate(
         code, ap.now, ap.length, ac.now, ac.length, bp.now, bp.length, bc.now, bc.length,
         points.now, points.length, corners.now, corners.length, origins.now, origins.length);
-    printf("%u %zu %zu\n", m.answer.number, m.vertices, m.triangles);
+    put_answer(m.answer);
+    printf(" %zu %zu\n", m.vertices, m.triangles);
     put_vertices(points, m.vertices);
     for (size_t i = 0; i < m.triangles; i++) {
         printf("t");
@@ -165,14 +171,16 @@ static void answer_count(void) {
     ozoravesh_counted c = as_a
         ? ozoravesh_count_as_a(v[0], v[1], v[2], sp.now, sp.length, sc.now, sc.length)
         : ozoravesh_count_as_b(v[0], v[1], v[2], sp.now, sp.length, sc.now, sc.length);
-    printf("%u %d\n", c.answer.number, c.count);
+    put_answer(c.answer);
+    printf(" %d\n", c.count);
     done(pt), done(sp), done(sc);
 }
 
 static void answer_admit(void) {
     list sp = floats("sp");
     list sc = numbers("sc");
-    printf("%u\n", ozoravesh_admit(sp.now, sp.length, sc.now, sc.length));
+    put_answer(ozoravesh_admit(sp.now, sp.length, sc.now, sc.length));
+    printf("\n");
     done(sp), done(sc);
 }
 
@@ -200,7 +208,8 @@ static void answer_read(void) {
     list corners = room(decimal(), sizeof(uint32_t));
     ozoravesh_was_read r = ozoravesh_read(
         bytes.now, bytes.length, points.now, points.length, corners.now, corners.length);
-    printf("%u %zu %zu %zu\n", r.answer.number, r.vertices, r.facets, r.used);
+    put_answer(r.answer);
+    printf(" %zu %zu %zu\n", r.vertices, r.facets, r.used);
     put_vertices(points, r.vertices);
     for (size_t i = 0; i < r.facets; i++) {
         printf("f");
@@ -219,7 +228,8 @@ static void answer_write(void) {
     list bytes = room(decimal(), 1);
     ozoravesh_written w =
         ozoravesh_write(sp.now, sp.length, sc.now, sc.length, bytes.now, bytes.length);
-    printf("%u %zu\n", w.answer.number, w.used);
+    put_answer(w.answer);
+    printf(" %zu\n", w.used);
     if (w.answer.number == 0) {
         printf("b ");
         for (size_t i = 0; i < w.used; i++) {

@@ -1,4 +1,5 @@
-//! Solids as given, the checks 1 to 6 in their order, and admitted solids with their edges.
+//! Solids as given, refusals, the checks on one solid in their order, and admitted solids with
+//! their edges.
 
 use crate::crossings::{Edge, Facet, HalfEdge, Point};
 use crate::slips::{slip, Slip};
@@ -7,9 +8,33 @@ pub const MOST_VERTICES: usize = 128;
 pub const MOST_FACETS: usize = 256;
 pub const LIMIT: f64 = 1_048_576.0;
 
-/// The number of a refusal, 1 to 9.
+/// Which it was that is refused: A, B, the only solid, the point, or none of them.
 #[derive(Clone, Copy, PartialEq, Eq, Debug)]
-pub struct Refusal(pub u8);
+pub enum Who {
+    A,
+    B,
+    OnlySolid,
+    Point,
+    Nobody,
+}
+
+/// A refusal's number, "which it was (A, B, the only solid, or the point) and a place".
+#[derive(Clone, Copy, PartialEq, Eq, Debug)]
+pub struct Refusal {
+    pub number: u8,
+    pub who: Who,
+    pub place: usize,
+}
+
+impl Refusal {
+    /// A refusal on no solid and no point. "Others carry place 0."
+    pub fn on_nobody(number: u8) -> Refusal {
+        if number == 8 && slip() == Slip::PlaceWithRoom {
+            return Refusal { number, who: Who::OnlySolid, place: 1 };
+        }
+        Refusal { number, who: Who::Nobody, place: 0 }
+    }
+}
 
 pub type Answer<T> = Result<T, Refusal>;
 
@@ -37,71 +62,139 @@ impl Solid {
         [0, 1, 2].map(|corner| self.corners[3 * facet + corner] as usize)
     }
 
-    /// The half-edges of all facets: p→q, q→r, r→p.
+    /// "A facet p,q,r has the half-edges p→q, q→r, r→p."
+    fn half_edges_of(&self, facet: usize) -> [(usize, usize); 3] {
+        let [p, q, r] = self.facet(facet);
+        [(p, q), (q, r), (r, p)]
+    }
+
+    /// The half-edges of all facets.
     fn half_edges(&self) -> impl Iterator<Item = (usize, usize)> + '_ {
-        (0..self.facets()).flat_map(move |facet| {
-            let [p, q, r] = self.facet(facet);
-            [(p, q), (q, r), (r, p)]
-        })
+        (0..self.facets()).flat_map(move |facet| self.half_edges_of(facet))
     }
 }
 
-fn refuse_if(fault: bool, number: u8) -> Answer<()> {
-    if fault {
-        Err(Refusal(number))
+/// The first of the faults that are found.
+fn first<T>(mut faults: impl Iterator<Item = T>) -> Option<T> {
+    if slip() == Slip::LastFault {
+        faults.last()
     } else {
-        Ok(())
+        faults.next()
     }
+}
+
+/// Refuses if there is a place with the fault.
+fn refuse_at(place: Option<usize>, number: u8, who: Who) -> Answer<()> {
+    place.map_or(Ok(()), |place| Err(Refusal { number, who, place }))
+}
+
+/// Refuses a solid for its sizes, with place 0.
+fn refuse_if(fault: bool, number: u8, who: Who) -> Answer<()> {
+    let who = if slip() == Slip::SizesOnNobody { Who::Nobody } else { who };
+    refuse_at(fault.then_some(0), number, who)
 }
 
 /// 1: a list's length is not a multiple of three.
-fn check_lengths(solid: &Solid) -> Answer<()> {
-    refuse_if(solid.points.len() % 3 != 0 || solid.corners.len() % 3 != 0, 1)
+fn check_lengths(solid: &Solid, who: Who) -> Answer<()> {
+    refuse_if(solid.points.len() % 3 != 0 || solid.corners.len() % 3 != 0, 1, who)
 }
 
 /// 2: more than 128 vertices or 256 facets.
-pub fn check_size(solid: &Solid) -> Answer<()> {
-    refuse_if(solid.vertices() > MOST_VERTICES || solid.facets() > MOST_FACETS, 2)
+pub fn check_size(solid: &Solid, who: Who) -> Answer<()> {
+    refuse_if(solid.vertices() > MOST_VERTICES || solid.facets() > MOST_FACETS, 2, who)
+}
+
+/// The first vertex with such a coordinate.
+fn first_vertex(coordinates: &[f64], fault: fn(f64) -> bool) -> Option<usize> {
+    let coordinate = first((0..coordinates.len()).filter(|&at| fault(coordinates[at])))?;
+    Some(if slip() == Slip::CoordinateForVertex { coordinate } else { coordinate / 3 })
 }
 
 /// 3: some coordinate is a NaN (a blank).
-fn check_blanks(coordinates: &[f64]) -> Answer<()> {
-    refuse_if(coordinates.iter().any(|number| number.is_nan()), 3)
+fn check_blanks(coordinates: &[f64], who: Who) -> Answer<()> {
+    refuse_at(first_vertex(coordinates, f64::is_nan), 3, who)
 }
 
 /// 4: some coordinate is above 1,048,576 or below -1,048,576, infinities included.
-fn check_limit(coordinates: &[f64]) -> Answer<()> {
-    if slip() == Slip::LimitRefused {
-        return refuse_if(coordinates.iter().any(|&number| number >= LIMIT || number <= -LIMIT), 4);
+fn check_limit(coordinates: &[f64], who: Who) -> Answer<()> {
+    let out_of_range = match slip() {
+        Slip::LimitRefused => |number| number >= LIMIT || number <= -LIMIT,
+        _ => |number| number > LIMIT || number < -LIMIT,
+    };
+    refuse_at(first_vertex(coordinates, out_of_range), 4, who)
+}
+
+/// 3, then 4: over all vertices of a solid, or for a point, which is one vertex.
+pub fn check_coordinates(coordinates: &[f64], who: Who) -> Answer<()> {
+    let limit = check_limit(coordinates, who);
+    match (slip(), limit) {
+        (Slip::BlankLimitSwapped, _) => limit?,
+        (Slip::BlankLimitByVertex, Err(refusal)) => {
+            check_blanks(&coordinates[..3 * refusal.place + 3], who).and(limit)?
+        }
+        _ => {}
     }
-    refuse_if(coordinates.iter().any(|&number| number > LIMIT || number < -LIMIT), 4)
+    check_blanks(coordinates, who)?;
+    limit
 }
 
-/// 3, then 4: over all coordinates, of a solid or of a point.
-pub fn check_coordinates(coordinates: &[f64]) -> Answer<()> {
-    if slip() == Slip::BlankLimitSwapped {
-        check_limit(coordinates)?;
+/// 10: a corner number is not below the vertex count. 11: a facet names a vertex twice.
+/// "A facet being tested for 10 first."
+fn corner_fault(solid: &Solid, facet: usize) -> Option<u8> {
+    let too_high = solid.facet(facet).iter().any(|&corner| corner >= solid.vertices());
+    let twice = solid.half_edges_of(facet).iter().any(|(from, to)| from == to);
+    match slip() {
+        Slip::FiveKept if too_high || twice => Some(5),
+        Slip::TwiceFirst if twice => Some(11),
+        _ if too_high => Some(10),
+        Slip::TwiceNamed => None,
+        _ if twice => Some(11),
+        _ => None,
     }
-    check_blanks(coordinates)?;
-    check_limit(coordinates)
 }
 
-/// 5: a corner number is not below the vertex count, or a facet names a vertex twice.
-fn check_corners(solid: &Solid) -> Answer<()> {
-    let beyond = solid.corners.iter().any(|&corner| corner as usize >= solid.vertices());
-    let twice = solid.half_edges().any(|(from, to)| from == to);
-    refuse_if(beyond || (twice && slip() != Slip::TwiceNamed), 5)
+/// 10 and 11: "the lower facet number wins".
+fn check_corners(solid: &Solid, who: Who) -> Answer<()> {
+    let faults =
+        || (0..solid.facets()).filter_map(|facet| Some((corner_fault(solid, facet)?, facet)));
+    let mut fault = first(faults());
+    if slip() == Slip::HighAnywhereFirst {
+        fault = faults().find(|&(number, _)| number == 10).or(fault);
+    }
+    fault.map_or(Ok(()), |(number, facet)| refuse_at(Some(facet), number, who))
 }
 
-/// 6: for some P and Q the half-edges P→Q and Q→P differ in number.
-fn check_closed(solid: &Solid) -> Answer<()> {
+/// 6: for some P and Q the half-edges P→Q and Q→P differ in number. The place is "the first
+/// facet with a half-edge whose two directions differ in number".
+fn check_closed(solid: &Solid, who: Who) -> Answer<()> {
     let n = solid.vertices();
-    let mut surplus = vec![0i32; n * n];
-    for (from, to) in solid.half_edges() {
-        surplus[from * n + to] += 1;
-        surplus[to * n + from] -= 1;
+    let mut numbers = vec![0; n * n];
+    solid.half_edges().for_each(|(from, to)| numbers[from * n + to] += 1);
+    let differ = |&(from, to): &(usize, usize)| {
+        let (there, back) = (numbers[from * n + to], numbers[to * n + from]);
+        there > back || (there < back && slip() != Slip::SurplusOnly)
+    };
+    let place = match slip() {
+        Slip::FacetOfReturn | Slip::LowestPair => {
+            slipped_place(solid, solid.half_edges().filter(differ))
+        }
+        _ => first(
+            (0..solid.facets()).filter(|&facet| solid.half_edges_of(facet).iter().any(differ)),
+        ),
+    };
+    refuse_at(place, 6, who)
+}
+
+/// A wrong place for 6, from the half-edges whose two directions differ in number.
+fn slipped_place(solid: &Solid, mut open: impl Iterator<Item = (usize, usize)>) -> Option<usize> {
+    let facet_with = |half_edge| {
+        (0..solid.facets()).find(|&facet| solid.half_edges_of(facet).contains(&half_edge))
+    };
+    if slip() == Slip::LowestPair {
+        return facet_with(open.min_by_key(|&(from, to)| (from.min(to), from.max(to)))?);
     }
-    refuse_if(surplus.iter().any(|&number| number != 0), 6)
+    let (from, to) = open.next()?;
+    facet_with((to, from)).or(facet_with((from, to)))
 }
 
 /// "The solid with no vertices is admitted; it means nothing, and a blank does not."
@@ -110,16 +203,16 @@ fn taken_for_empty(solid: &Solid) -> bool {
     slip() == Slip::BlankIsEmpty && !solid.points.is_empty() && blanks()
 }
 
-/// The checks on one solid, in their order.
-pub fn check(solid: &Solid) -> Answer<()> {
+/// The checks on one solid, in their order: 1, 2, 3, 4, 10 and 11, 6.
+pub fn check(solid: &Solid, who: Who) -> Answer<()> {
     if taken_for_empty(solid) {
         return Ok(());
     }
-    check_lengths(solid)?;
-    check_size(solid)?;
-    check_coordinates(&solid.points)?;
-    check_corners(solid)?;
-    check_closed(solid)
+    check_lengths(solid, who)?;
+    check_size(solid, who)?;
+    check_coordinates(&solid.points, who)?;
+    check_corners(solid, who)?;
+    check_closed(solid, who)
 }
 
 /// A half-edge of an admitted solid by its edge's number.
@@ -142,8 +235,8 @@ pub struct Body {
 }
 
 /// The admitted solid, or its refusal.
-pub fn admitted(solid: &Solid) -> Answer<Body> {
-    check(solid)?;
+pub fn admitted(solid: &Solid, who: Who) -> Answer<Body> {
+    check(solid, who)?;
     if taken_for_empty(solid) {
         return Ok(Body::default());
     }
@@ -156,10 +249,7 @@ pub fn admitted(solid: &Solid) -> Answer<Body> {
         Side { edge, along: edge_ends[edge] == [from, to] }
     };
     let sides: Vec<[Side; 3]> = (0..solid.facets())
-        .map(|facet| {
-            let [p, q, r] = solid.facet(facet);
-            [side(p, q), side(q, r), side(r, p)]
-        })
+        .map(|facet| solid.half_edges_of(facet).map(|(from, to)| side(from, to)))
         .collect();
     let bare = |side: Side| HalfEdge { edge: edges[side.edge], along: side.along };
     let facets = sides.iter().map(|sides| sides.map(bare)).collect();

@@ -1,6 +1,6 @@
 //! The house file: reader and writer, and the line that the program `solid` prints.
 
-use crate::admission::{admitted, check, check_size, Answer, Refusal, Solid};
+use crate::admission::{check, check_size, Answer, Refusal, Solid, Who};
 use crate::result::{operation, Room};
 use crate::slips::{slip, Slip};
 
@@ -23,12 +23,12 @@ enum Record<'b> {
 
 /// "Each record begins where the one before it ended, with a two-byte mark."
 fn record(bytes: &[u8]) -> Answer<Record<'_>> {
-    let (mark, rest) = bytes.split_at_checked(2).ok_or(Refusal(9))?;
+    let (mark, rest) = bytes.split_at_checked(2).ok_or(Refusal::on_nobody(9))?;
     match mark {
-        b"VX" => rest.get(..24).map(Record::Vertex).ok_or(Refusal(9)),
-        b"FC" => rest.get(..12).map(Record::Facet).ok_or(Refusal(9)),
+        b"VX" => rest.get(..24).map(Record::Vertex).ok_or(Refusal::on_nobody(9)),
+        b"FC" => rest.get(..12).map(Record::Facet).ok_or(Refusal::on_nobody(9)),
         b"EN" => Ok(Record::End),
-        _ => Err(Refusal(9)),
+        _ => Err(Refusal::on_nobody(9)),
     }
 }
 
@@ -46,7 +46,7 @@ fn layout(bytes: &[u8]) -> Answer<File> {
             Record::Vertex(numbers) => {
                 // "All VX come before all FC."
                 if !solid.corners.is_empty() && slip() != Slip::MixedRecords {
-                    return Err(Refusal(9));
+                    return Err(Refusal::on_nobody(9));
                 }
                 solid.points.extend(numbers.chunks(8).map(|bytes| f64::from_bits(number(bytes))));
                 used += 26;
@@ -61,7 +61,7 @@ fn layout(bytes: &[u8]) -> Answer<File> {
             }
         }
         if slip() == Slip::SizeFirst {
-            check_size(&solid)?;
+            check_size(&solid, Who::OnlySolid)?;
         }
     }
 }
@@ -70,15 +70,15 @@ fn layout(bytes: &[u8]) -> Answer<File> {
 pub fn read(bytes: &[u8], coordinates: usize, corners: usize) -> Answer<File> {
     let file = layout(bytes)?;
     let short = file.solid.points.len() > coordinates || file.solid.corners.len() > corners;
-    let room = if short { Err(Refusal(8)) } else { Ok(()) };
+    let room = if short { Err(Refusal::on_nobody(8)) } else { Ok(()) };
     if slip() == Slip::RoomFirst {
         room?;
     }
-    check_size(&file.solid)?;
+    check_size(&file.solid, Who::OnlySolid)?;
     if slip() != Slip::RoomLast {
         room?;
     }
-    check(&file.solid)?;
+    check(&file.solid, Who::OnlySolid)?;
     room?;
     Ok(file)
 }
@@ -100,14 +100,14 @@ pub fn records(solid: &Solid) -> Vec<u8> {
 
 /// "The writer checks 1 to 6, then 8. Signs of zero are kept." The room is in bytes.
 pub fn write(solid: &Solid, room: usize) -> Answer<Vec<u8>> {
-    check(solid)?;
+    check(solid, Who::OnlySolid)?;
     let mut solid = solid.clone();
     if slip() == Slip::ZeroSignLost {
         solid.points.iter_mut().for_each(|number| *number += 0.0);
     }
     let bytes = records(&solid);
     if bytes.len() > room {
-        Err(Refusal(8))
+        Err(Refusal::on_nobody(8))
     } else {
         Ok(bytes)
     }
@@ -119,7 +119,7 @@ fn letter_code(letter: u8) -> Answer<u32> {
         b'I' => Ok(1),
         b'D' => Ok(2),
         b'u' | b'i' | b'd' if slip() == Slip::LowerCase => letter_code(letter.to_ascii_uppercase()),
-        _ => Err(Refusal(7)),
+        _ => Err(Refusal::on_nobody(7)),
     }
 }
 
@@ -127,11 +127,11 @@ fn letter_code(letter: u8) -> Answer<u32> {
 fn two_files(bytes: &[u8]) -> Answer<(Solid, Solid)> {
     let a = layout(bytes)?;
     if slip() == Slip::LayoutByFile {
-        admitted(&a.solid)?;
+        check(&a.solid, Who::A)?;
     }
     let b = layout(&bytes[a.used..])?;
     if a.used + b.used < bytes.len() && slip() != Slip::TrailingTaken {
-        return Err(Refusal(9));
+        return Err(Refusal::on_nobody(9));
     }
     Ok((a.solid, b.solid))
 }
@@ -141,13 +141,13 @@ fn two_files(bytes: &[u8]) -> Answer<(Solid, Solid)> {
 /// over 32,768 bytes, a layout fault in either file or trailing bytes give 9; then come A's
 /// other refusals, B's, and last 8."
 pub fn program(input: &[u8]) -> Answer<(usize, usize)> {
-    let (&letter, files) = input.split_first().ok_or(Refusal(9))?;
+    let (&letter, files) = input.split_first().ok_or(Refusal::on_nobody(9))?;
     if slip() == Slip::LetterLast {
         two_files(files)?;
     }
     let code = letter_code(letter)?;
     if input.len() > MOST_BYTES && slip() != Slip::BytesUnlimited {
-        return Err(Refusal(9));
+        return Err(Refusal::on_nobody(9));
     }
     let (a, b) = two_files(files)?;
     let vertices =

@@ -1,7 +1,7 @@
 //! The case language: requests read and written, and the answers to them
 //! (tests/cases/README.md has the form).
 
-use crate::admission::{admitted, check, check_coordinates, Answer, Solid};
+use crate::admission::{admitted, check, check_coordinates, Answer, Solid, Who};
 use crate::crossings::{contained_in_a, contained_in_b, facet_vertex, vertex_facet, Point};
 use crate::house;
 use crate::result::{operation, shown, Outcome, Room};
@@ -233,19 +233,35 @@ fn write_vertex(text: &mut String, [x, y, z]: Point) {
     writeln!(text, "v {:016x} {:016x} {:016x}", x.to_bits(), y.to_bits(), z.to_bits()).unwrap();
 }
 
-/// An answer's lines: the refusal's number and as many zeros as there are counts, or what the
+fn who_letter(who: Who) -> char {
+    match who {
+        Who::A => 'A',
+        Who::B => 'B',
+        Who::OnlySolid => 'S',
+        Who::Point => 'P',
+        Who::Nobody => '-',
+    }
+}
+
+/// An answer's lines: `ANSWER WHO PLACE`, then as many zeros as there are counts, or what the
 /// success writes.
 fn lines<T>(answer: Answer<T>, zeros: &str, success: impl FnOnce(&mut String, T)) -> String {
     let mut text = String::new();
     match answer {
-        Ok(made) => success(&mut text, made),
-        Err(refusal) => writeln!(text, "{}{zeros}", refusal.0).unwrap(),
+        Ok(made) => {
+            text.push_str("0 - 0");
+            success(&mut text, made);
+        }
+        Err(refusal) => {
+            let who = who_letter(refusal.who);
+            writeln!(text, "{} {who} {}{zeros}", refusal.number, refusal.place).unwrap();
+        }
     }
     text
 }
 
 fn write_outcome(text: &mut String, outcome: Outcome) {
-    writeln!(text, "0 {} {}", outcome.vertices.len(), outcome.triangles.len()).unwrap();
+    writeln!(text, " {} {}", outcome.vertices.len(), outcome.triangles.len()).unwrap();
     outcome.vertices.iter().for_each(|&vertex| write_vertex(text, vertex));
     for ([a, b, c], origin) in outcome.triangles.iter().zip(&outcome.origins) {
         writeln!(text, "t {a} {b} {c} {origin}").unwrap();
@@ -254,7 +270,7 @@ fn write_outcome(text: &mut String, outcome: Outcome) {
 
 fn write_file(text: &mut String, file: house::File) {
     let solid = &file.solid;
-    writeln!(text, "0 {} {} {}", solid.vertices(), solid.facets(), file.used).unwrap();
+    writeln!(text, " {} {} {}", solid.vertices(), solid.facets(), file.used).unwrap();
     (0..solid.vertices()).for_each(|vertex| write_vertex(text, solid.point(vertex)));
     for facet in 0..solid.facets() {
         let [a, b, c] = solid.facet(facet);
@@ -272,11 +288,16 @@ fn capped(room: Room) -> Room {
 
 /// "A point count checks the point by 3 and 4, then the solid by 1 to 6."
 fn count(as_a: bool, point: Point, solid: &Solid) -> Answer<i64> {
+    let who = match slip() {
+        Slip::CountedAsLetter if as_a => Who::A,
+        Slip::CountedAsLetter => Who::B,
+        _ => Who::OnlySolid,
+    };
     if slip() == Slip::PointLast {
-        check(solid)?;
+        check(solid, who)?;
     }
-    check_coordinates(&point)?;
-    let facets = admitted(solid)?.facets;
+    check_coordinates(&point, if slip() == Slip::PointIsSolid { who } else { Who::Point })?;
+    let facets = admitted(solid, who)?.facets;
     Ok(if as_a {
         contained_in_a(facets.iter().map(|facet| facet_vertex(facet, point)))
     } else {
@@ -292,10 +313,12 @@ pub fn answer(request: &Request) -> String {
         }
         Request::Count { as_a, point, solid } => {
             lines(count(*as_a, *point, solid), " 0", |text, count| {
-                writeln!(text, "0 {count}").unwrap()
+                writeln!(text, " {count}").unwrap()
             })
         }
-        Request::Admit { solid } => lines(check(solid), "", |text, ()| text.push_str("0\n")),
+        Request::Admit { solid } => {
+            lines(check(solid, Who::OnlySolid), "", |text, ()| text.push('\n'))
+        }
         Request::Shown { a, b, origin } => {
             let part = shown(a, b, *origin);
             let corners: String = part.iter().map(|corner| format!(" {corner}")).collect();
@@ -305,14 +328,18 @@ pub fn answer(request: &Request) -> String {
             lines(house::read(bytes, *coordinates, *corners), " 0 0 0", write_file)
         }
         Request::Write { solid, room } => lines(house::write(solid, *room), " 0", |text, bytes| {
-            write!(text, "0 {}\nb ", bytes.len()).unwrap();
+            write!(text, " {}\nb ", bytes.len()).unwrap();
             write_hex(text, &bytes);
             text.push('\n');
         }),
-        Request::Solid { bytes } => {
-            lines(house::program(bytes), " 0 0", |text, (vertices, triangles)| {
-                writeln!(text, "0 {vertices} {triangles}").unwrap();
-            })
-        }
+        Request::Solid { bytes } => program_line(house::program(bytes)),
+    }
+}
+
+/// The program "prints one line: answer, vertices, triangles".
+fn program_line(answer: Answer<(usize, usize)>) -> String {
+    match answer {
+        Ok((vertices, triangles)) => format!("0 {vertices} {triangles}\n"),
+        Err(refusal) => format!("{} 0 0\n", refusal.number),
     }
 }

@@ -1,5 +1,6 @@
-//! The separate program: document 01 worked out once more, from documents 000 and 01 alone,
-//! to compare the proved program with. This file holds its commands.
+//! The separate program: document 01 and the requests of document 02 that have landed, worked
+//! out once more from documents 000, 01 and 02 alone, to compare the proved program with. This
+//! file holds its commands.
 
 mod admission;
 mod crossings;

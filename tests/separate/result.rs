@@ -1,7 +1,7 @@
 //! The result of an operation: inclusion, vertices, composite edges, boundaries, triangles and
 //! origins (document 000, section 2.5), and the part of a corner list that an origin shows.
 
-use crate::admission::{admitted, Answer, Body, Refusal, Side, Solid};
+use crate::admission::{admitted, check, Answer, Body, Refusal, Side, Solid, Who};
 use crate::crossings::{Crossing, Point};
 use crate::pairings::{each, Pairings};
 use crate::slips::{slip, Slip};
@@ -40,26 +40,27 @@ fn operation_by(code: u32) -> Answer<Operation> {
         1 => Ok(INTERSECTION),
         2 if slip() == Slip::DifferenceSign => Ok(Operation { c_i: 1, ..DIFFERENCE }),
         2 => Ok(DIFFERENCE),
-        _ => Err(Refusal(7)),
+        _ => Err(Refusal::on_nobody(7)),
     }
 }
 
 /// "An operation checks 7, then A by 1 to 6, then B by 1 to 6, then 8."
 pub fn operation(code: u32, a: &Solid, b: &Solid, room: Room) -> Answer<Outcome> {
+    let who_b = if slip() == Slip::AForB { Who::A } else { Who::B };
     if slip() == Slip::CodeLast {
-        admitted(a).and(admitted(b))?;
+        check(a, Who::A).and(check(b, who_b))?;
     }
     let operation = operation_by(code)?;
     if slip() == Slip::OrderSwapped {
-        admitted(b)?;
+        check(b, who_b)?;
     }
-    let (a, b) = (admitted(a)?, admitted(b)?);
+    let (a, b) = (admitted(a, Who::A)?, admitted(b, who_b)?);
     let outcome = Making::new(operation, &a, &b).outcome();
     let short = 3 * outcome.vertices.len() > room.coordinates
         || 3 * outcome.triangles.len() > room.corners
         || (outcome.triangles.len() > room.origins && slip() != Slip::OriginsUnroomed);
     if short {
-        Err(Refusal(8))
+        Err(Refusal::on_nobody(8))
     } else {
         Ok(outcome)
     }

@@ -30,7 +30,7 @@ fn p2() -> bool {
 
 /// How often T contains the point, as the case language answers.
 fn contains(as_a: bool, point: Point, count: &str) -> bool {
-    answer(&Request::Count { as_a, point, solid: t() }) == format!("0 {count}\n")
+    answer(&Request::Count { as_a, point, solid: t() }) == format!("0 - 0 {count}\n")
 }
 
 /// The edge from (2,1,0.5) to this end with T's last facet.
@@ -54,7 +54,7 @@ fn p11() -> bool {
     let zero = "0000000000000000";
     let four = "4010000000000000";
     let vertices = [[zero, zero, zero], [four, zero, zero], [zero, four, zero], [zero, zero, four]];
-    let mut lines = "0 4 4\n".to_string();
+    let mut lines = "0 - 0 4 4\n".to_string();
     vertices.iter().for_each(|vertex| lines += &format!("v {}\n", vertex.join(" ")));
     lines += "t 0 2 1 0\nt 0 1 3 1\nt 0 3 2 2\nt 1 2 3 3\n";
     with_nothing(2, t(), &lines)
@@ -62,7 +62,7 @@ fn p11() -> bool {
 
 fn p13() -> bool {
     let vertex = Solid { points: vec![1.0, 2.0, 4.0], corners: Vec::new() };
-    with_nothing(0, vertex, "0 1 0\nv 3ff0000000000000 4000000000000000 4010000000000000\n")
+    with_nothing(0, vertex, "0 - 0 1 0\nv 3ff0000000000000 4000000000000000 4010000000000000\n")
 }
 
 /// Each case with whether it holds.
@@ -79,7 +79,7 @@ pub fn cases() -> Vec<(&'static str, bool)> {
         ("P9", p9()),
         ("P10", with_last_facet([2.0, 1.0, 1.0]).count() == 0),
         ("P11", p11()),
-        ("P12", with_nothing(1, t(), "0 0 0\n")),
+        ("P12", with_nothing(1, t(), "0 - 0 0 0\n")),
         ("P13", p13()),
     ]
 }

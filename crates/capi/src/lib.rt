@@ -3,6 +3,7 @@ use housefile::Read;
 use housefile::Written;
 use points::Point;
 use results::Made;
+use solids::Answer;
 use solids::Counted;
 ghost use Rattle.solids.specs.Solids as So;
 ghost use Rattle.solids.specs.Admission as Ad;
@@ -33,10 +34,10 @@ pub extern "C" fn ozoravesh_operate(
 
 // The answer of a solid's admission.
 #[no_mangle]
-pub extern "C" fn ozoravesh_admit(points: &[f64], corners: &[u32]) -> u32
+pub extern "C" fn ozoravesh_admit(points: &[f64], corners: &[u32]) -> Answer
     ensures { λ r. ⌜ Ad.Admit (So.lent (points .entry) (corners .entry)) r ⌝ }
 {
-    admission::admit(points, corners).answer().number
+    admission::admit(points, corners).answer()
 }
 
 // How often the solid, as A, contains the point x, y, z.

@@ -13,15 +13,14 @@ fn counted(as_b: bool, v: Point, points: &[f64], corners: &[u32]) -> Counted {
 
 pub fn count(out: &mut Lines, as_b: bool, v: Point, points: &[f64], corners: &[u32]) {
     let c = counted(as_b, v, points, corners);
-    let at = case_lines::number(out, 0, c.answer.number as u64);
+    let at = case_lines::begun(out, c.answer);
     let end = case_lines::signed(out, at, c.count);
     let line = case_lines::text(out, end, b"\n");
     case_lines::stop(out, line);
 }
 
 pub fn admit(out: &mut Lines, points: &[f64], corners: &[u32]) {
-    let answer = admission::admit(points, corners).answer().number;
-    let at = case_lines::number(out, 0, answer as u64);
+    let at = case_lines::begun(out, admission::admit(points, corners).answer());
     let line = case_lines::text(out, at, b"\n");
     case_lines::stop(out, line);
 }

@@ -4,7 +4,7 @@ ghost use Prim.Native.Nat.{_≤_};
 
 pub fn read(out: &mut Lines, bytes: &[u8], points: &mut [f64], corners: &mut [u32]) {
     let r = housefile_reader::read(bytes, points, corners);
-    let answer = case_lines::number(out, 0, r.answer.number as u64);
+    let answer = case_lines::begun(out, r.answer);
     let vertices = case_lines::spaced(out, answer, r.vertices as u64);
     let facets = case_lines::spaced(out, vertices, r.facets as u64);
     let used = case_lines::spaced(out, facets, r.used as u64);
@@ -26,7 +26,7 @@ fn line_of_file(out: &mut Lines, at: usize, file: &[u8]) -> usize
 
 pub fn write(out: &mut Lines, points: &[f64], corners: &[u32], bytes: &mut [u8]) {
     let w = housefile_writer::write(points, corners, bytes);
-    let answer = case_lines::number(out, 0, w.answer.number as u64);
+    let answer = case_lines::begun(out, w.answer);
     let used = case_lines::spaced(out, answer, w.used as u64);
     let line = case_lines::text(out, used, b"\n");
     if w.answer.number != 0 {

@@ -1,5 +1,6 @@
 // The lines of an answer. They wait in a list that the caller lends, up to at, and go to standard output when it is full or the answer ends. Each function answers the new at. Lines that cannot be written are lost.
 use libc::STDOUT_FILENO;
+use solids::Answer;
 ghost use Prim.Native.Nat.{_+_, _≤_};
 ghost use lib.ListN.{length};
 
@@ -52,6 +53,27 @@ pub fn spaced(out: &mut Lines, at: usize, n: u64) -> usize
 {
     let end = byte(out, at, b' ');
     number(out, end, n)
+}
+
+// The letter for who a refusal speaks of.
+fn letter(who: u32) -> u8 {
+    match who {
+        0 => b'-',
+        1 => b'A',
+        2 => b'B',
+        3 => b'S',
+        _ => b'P',
+    }
+}
+
+// ANSWER WHO PLACE, with which an answer begins.
+pub fn begun(out: &mut Lines, answer: Answer) -> usize
+    ensures { λ r. ⌜ r ≤ 65536 ⌝ }
+{
+    let at = number(out, 0, wide(answer.number));
+    let space = byte(out, at, b' ');
+    let who = byte(out, space, letter(answer.who));
+    spaced(out, who, answer.place as u64)
 }
 
 // How far a number is from 0.

@@ -7,7 +7,7 @@ ghost use Prim.Native.Nat.{_≤_};
 fn line_of_made(out: &mut Lines, made: Made) -> usize
     ensures { λ r. ⌜ r ≤ 65536 ⌝ }
 {
-    let answer = case_lines::number(out, 0, made.answer.number as u64);
+    let answer = case_lines::begun(out, made.answer);
     let vertices = case_lines::spaced(out, answer, made.vertices as u64);
     let triangles = case_lines::spaced(out, vertices, made.triangles as u64);
     case_lines::text(out, triangles, b"\n")

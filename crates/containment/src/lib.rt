@@ -69,7 +69,7 @@ fn count_as(as_b: bool, v: Point, points: &[f64], corners: &[u32]) -> Counted
     match both(v, points, corners) {
         Verdict::Refused(answer) => Counted { answer, count: 0 },
         Verdict::Accepted => Counted {
-            answer: Answer { number: 0 },
+            answer: Answer::SUCCESS,
             count: contained(as_b, v, points, corners),
         },
     }

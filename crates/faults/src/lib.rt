@@ -1,11 +1,15 @@
-// What checks 3, 4 and 5 look for, in a point or a facet and in all of them: a blank, a coordinate beyond the limit, a facet with a fault.
+// Checks 3, 4, 10 and 11 on a solid, and what 3 and 4 look for in a point: a blank, a coordinate beyond the limit, a facet with a fault.
 use points::Point;
+use solids::Answer;
+use solids::Verdict;
 ghost use mathlib.Core.Path.{_≡_};
-ghost use Prim.Native.Nat.{_/_, _%_, _<_};
+ghost use mathlib.Core.List.{[]};
+ghost use Prim.Native.Nat.{_/_, _<_};
 ghost use lib.ListN.{length};
 ghost use lib.Ieee.{isNan};
-ghost use Rattle.list_words.specs.Lists.{any, upTo};
+ghost use Rattle.list_words.specs.Lists.{any};
 ghost use Rattle.points.specs.Points.{coordinates};
+ghost use Rattle.solids.specs.Refusals.{at-each};
 ghost use Rattle.solids.specs.Solids as So;
 ghost use Rattle.solids.specs.Admission as Ad;
 ghost use Rattle.solids.specs.Words as Sw;
@@ -42,19 +46,25 @@ pub fn bad_point(blanks: bool, v: Point) -> bool
     }
 }
 
-// Vertex by vertex; of whole threes no coordinate is left out.
-pub fn some_bad(blanks: bool, points: &[f64]) -> bool
-    requires { ⌜ length (now points) % 3 ≡ 0 ⌝ }
-    ensures { λ r. ⌜ r ≡ any (Sw.bad blanks) (now (points .entry)) ⌝ }
+// The number of that check.
+fn bad_number(blanks: bool) -> u32
+    ensures { λ r. ⌜ r ≡ Sw.bad-number blanks ⌝ }
+{
+    if blanks { 3 } else { 4 }
+}
+
+// Check 3 or check 4, vertex by vertex: the first that is bad.
+pub fn check_points(blanks: bool, points: &[f64]) -> Verdict
+    ensures { λ r. ⌜ r ≡ at-each (length (now (points .entry)) / 3) (Sw.check-vertex blanks (So.solid (now (points .entry)) [])) ⌝ }
 {
     let mut i = 0;
     while i < points.len() / 3 {
         if bad_point(blanks, vertices::vertex(points, i)) {
-            return true;
+            return Verdict::Refused(Answer::on_solid(bad_number(blanks), i));
         }
         i += 1;
     }
-    false
+    Verdict::Accepted
 }
 
 fn wide(x: u32) -> usize
@@ -87,29 +97,34 @@ fn named_twice(p: u32, q: u32, r: u32) -> bool
     }
 }
 
-fn faulty(points: &[f64], corners: &[u32], f: usize) -> bool
+// Checks 10 and 11 of one facet, in this order.
+fn check_facet(points: &[f64], corners: &[u32], f: usize) -> Verdict
     requires { ⌜ f < length (now corners) / 3 ⌝ }
-    ensures { λ r. ⌜ r ≡ Ad.faulty (So.lent (points .entry) (corners .entry)) f ⌝ }
+    ensures { λ r. ⌜ r ≡ Ad.check-facet (So.lent (points .entry) (corners .entry)) f ⌝ }
 {
     let p = corners[3 * f];
     let q = corners[3 * f + 1];
     let r = corners[3 * f + 2];
     if too_high(points.len() / 3, p, q, r) {
-        true
-    } else {
-        named_twice(p, q, r)
+        return Verdict::Refused(Answer::on_solid(10, f));
     }
+    if named_twice(p, q, r) {
+        return Verdict::Refused(Answer::on_solid(11, f));
+    }
+    Verdict::Accepted
 }
 
-pub fn some_faulty(points: &[f64], corners: &[u32]) -> bool
-    ensures { λ r. ⌜ r ≡ any (Ad.faulty (So.lent (points .entry) (corners .entry))) (upTo (length (now (corners .entry)) / 3)) ⌝ }
+// Facet by facet: "the lower facet number wins".
+pub fn check_corners(points: &[f64], corners: &[u32]) -> Verdict
+    ensures { λ r. ⌜ r ≡ Ad.check-corners (So.lent (points .entry) (corners .entry)) ⌝ }
 {
     let mut f = 0;
     while f < corners.len() / 3 {
-        if faulty(points, corners, f) {
-            return true;
+        let said = check_facet(points, corners, f);
+        if let Verdict::Refused(answer) = said {
+            return Verdict::Refused(answer);
         }
         f += 1;
     }
-    false
+    Verdict::Accepted
 }

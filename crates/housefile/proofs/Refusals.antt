@@ -3,24 +3,25 @@
 use mathlib.Core.Path.{_≡_, refl, ap, _∙_}
 use mathlib.Core.Logic.{_≢_}
 use mathlib.Core.Bool.{Bool, true, false}
-use mathlib.Core.List.{List, [], _∷_}
+use mathlib.Core.List.{List, [], _∷_, map}
 use Prim.Native.Nat.{ℕ, suc, _%_, _<_, _≤_}
 use native.Mathlib.Omega.{arith}
 use lib.ListN.{length}
 use lib.Dec.{ltb}
-use lib.Ieee.{Float, isNan}
+use lib.Ieee.{Float}
 use borrow.Author.Tests.{lt-ltb, le-ltb, ltb-false}
 use Rattle.list_words.specs.Lists.{upTo, any, onto}
-use Rattle.list_words.proofs.Sums.{All}
+use Rattle.list_words.proofs.Sums.{All, all-map-of}
 use Rattle.list_words.proofs.Tests.{or-false}
+use Rattle.list_words.proofs.UpTo.{all-upTo}
 use Rattle.solids.specs.declared.Answer.{Answer}
 use Rattle.solids.specs.declared.Verdict.{Verdict}
 use Rattle.solids.specs.declared.Verdict.the-variants.{Accepted, Refused}
-use Rattle.solids.specs.Refusals.{answer, given, in-order, answer-of, no-refusal}
-use Rattle.solids.specs.Solids.{Solid, vertices, facets, half-edges, pairs}
-use Rattle.solids.specs.Admission.{uneven, too-many, beyond, faulty, differ}
-use Rattle.solids.specs.Admission.{check-lengths, check-sizes, check-blanks, check-limit, check-corners, check-closure, admission}
-use Rattle.solids.proofs.Orders.{all-accepted, accepted-all, not-given}
+use Rattle.solids.specs.Refusals.{nobody, only-solid, answer, answer-of, no-refusal, on-solid, given, in-order, at-each}
+use Rattle.solids.specs.Solids.{Solid, vertices, facets, vertex, half-edges, pairs}
+use Rattle.solids.specs.Admission.{uneven, too-many, blank, out-of-range, high, twice, differ}
+use Rattle.solids.specs.Admission.{check-lengths, check-sizes, check-blanks, check-limit, check-facet, check-corners, check-closure, admission}
+use Rattle.solids.proofs.Checks.{all-accepted, accepted-all, not-given}
 use Rattle.housefile.specs.Reader.{Layout, Reading, fault, laid, layout, unread, reading, too-short, read-solid, by-layout, read}
 use Rattle.housefile.specs.Writer.{file, unwritten, writing, write}
 
@@ -35,7 +36,7 @@ module _ (bs : List ℕ) (ps : List Float) (cs : List ℕ) where
     unfolding read
     read-checked = ap (λ l. by-layout l ps cs) follows
 
-    pub read-then-2 : too-many s ≡ true → read bs ps cs ≡ unread (answer-of 2) ps cs
+    pub read-then-2 : too-many s ≡ true → read bs ps cs ≡ unread (on-solid 2 0) ps cs
     unfolding read-solid in-order check-sizes
     read-then-2 e = read-checked ∙ rw e
 
@@ -45,26 +46,27 @@ module _ (bs : List ℕ) (ps : List Float) (cs : List ℕ) where
       read-then-8 e = read-checked ∙ rw (no-2, e)
 
       module _ (no-8 : too-short ps cs s ≡ false) where
-        pub read-then-3 : any isNan (s .points) ≡ true → read bs ps cs ≡ unread (answer-of 3) ps cs
-        unfolding read-solid in-order check-sizes check-blanks
-        read-then-3 e = read-checked ∙ rw (no-2, no-8, e)
+        pub read-then-3 : (a : Answer) → check-blanks s ≡ Refused a → read bs ps cs ≡ unread a ps cs
+        unfolding read-solid in-order check-sizes
+        read-then-3 a e =
+            read-checked ∙ rw (no-2, no-8) (ap (λ v. reading (in-order (v ∷ check-limit s ∷ check-corners s ∷ check-closure s ∷ [])) used s ps cs) e)
 
-        module _ (no-3 : any isNan (s .points) ≡ false) where
-          pub read-then-4 : any beyond (s .points) ≡ true → read bs ps cs ≡ unread (answer-of 4) ps cs
-          unfolding read-solid in-order check-sizes check-blanks check-limit
-          read-then-4 e = read-checked ∙ rw (no-2, no-8, no-3, e)
+        module _ (no-3 : check-blanks s ≡ Accepted) where
+          pub read-then-4 : (a : Answer) → check-limit s ≡ Refused a → read bs ps cs ≡ unread a ps cs
+          unfolding read-solid in-order check-sizes
+          read-then-4 a e = read-checked ∙ rw (no-2, no-8, no-3, e)
 
-          module _ (no-4 : any beyond (s .points) ≡ false) where
-            pub read-then-5 : any (faulty s) (upTo (facets s)) ≡ true → read bs ps cs ≡ unread (answer-of 5) ps cs
-            unfolding read-solid in-order check-sizes check-blanks check-limit check-corners
-            read-then-5 e = read-checked ∙ rw (no-2, no-8, no-3, no-4, e)
+          module _ (no-4 : check-limit s ≡ Accepted) where
+            pub read-then-10-and-11 : (a : Answer) → check-corners s ≡ Refused a → read bs ps cs ≡ unread a ps cs
+            unfolding read-solid in-order check-sizes
+            read-then-10-and-11 a e = read-checked ∙ rw (no-2, no-8, no-3, no-4, e)
 
-            module _ (no-5 : any (faulty s) (upTo (facets s)) ≡ false) where
-              pub read-then-6 : any (differ (half-edges s)) (pairs (vertices s)) ≡ true → read bs ps cs ≡ unread (answer-of 6) ps cs
-              unfolding read-solid in-order check-sizes check-blanks check-limit check-corners check-closure
-              read-then-6 e = read-checked ∙ rw (no-2, no-8, no-3, no-4, no-5, e)
+            module _ (no-10-and-11 : check-corners s ≡ Accepted) where
+              pub read-then-6 : (a : Answer) → check-closure s ≡ Refused a → read bs ps cs ≡ unread a ps cs
+              unfolding read-solid in-order check-sizes
+              read-then-6 a e = read-checked ∙ rw (no-2, no-8, no-3, no-4, no-10-and-11, e)
 
-              pub read-else : any (differ (half-edges s)) (pairs (vertices s)) ≡ false
+              pub read-else : check-closure s ≡ Accepted
                   → read bs ps cs
                   ≡ record {
                     answer = no-refusal;
@@ -74,8 +76,8 @@ module _ (bs : List ℕ) (ps : List Float) (cs : List ℕ) where
                     points = onto (s .points) ps;
                     corners = onto (s .corners) cs;
                   }
-              unfolding read-solid in-order check-sizes check-blanks check-limit check-corners check-closure
-              read-else e = read-checked ∙ rw (no-2, no-8, no-3, no-4, no-5, e)
+              unfolding read-solid in-order check-sizes
+              read-else e = read-checked ∙ rw (no-2, no-8, no-3, no-4, no-10-and-11, e)
 
 -- ---- the writer
 module _ (s : Solid) (lent : List ℕ) where
@@ -112,7 +114,7 @@ read-refusal bs ps cs = by-case (layout bs)
 pub write-refusal : (s : Solid) (lent : List ℕ) → (write s lent) .answer .number ≢ 0
     → write s lent ≡ record { answer = (write s lent) .answer; used = 0; bytes = lent }
 unfolding write
-write-refusal s lent = by-case (in-order (admission s ∷ given 8 (ltb (length lent) (length (file s))) ∷ []))
+write-refusal s lent = by-case (in-order (admission s ∷ given (answer-of 8) (ltb (length lent) (length (file s))) ∷ []))
   where
     by-case : (v : Verdict) → (writing v (file s) lent) .answer .number ≢ 0
         → writing v (file s) lent ≡ record { answer = (writing v (file s) lent) .answer; used = 0; bytes = lent }
@@ -129,22 +131,29 @@ in-order-numbered [] a e = refl
 in-order-numbered (Accepted ∷ vs) a e = in-order-numbered vs (a .1) e
 in-order-numbered (Refused n ∷ vs) a e = a .0 e
 
-pub given-numbered : (n : ℕ) (b : Bool) → Numbered (given (suc n) b)
+pub given-numbered : (n who place : ℕ) (b : Bool) → Numbered (given record { number = suc n; who = who; place = place } b)
 unfolding answer
-given-numbered n true e = absurd (omega arith)
-given-numbered n false e = refl
+given-numbered n who place true e = absurd (omega arith)
+given-numbered n who place false e = refl
+
+each-numbered : (n : ℕ) (check : ℕ → Verdict) → ((i : ℕ) → Numbered (check i)) → Numbered (at-each n check)
+each-numbered n check each = in-order-numbered (map check (upTo n)) (all-map-of Numbered check (upTo n) (all-upTo (λ i. Numbered (check i)) n (λ i h. each i)))
 
 module _ (s : Solid) where
   abbrev pub later-checks : List Verdict
-  later-checks = check-blanks (s .points) ∷ check-limit (s .points) ∷ check-corners s ∷ check-closure s ∷ []
+  later-checks = check-blanks s ∷ check-limit s ∷ check-corners s ∷ check-closure s ∷ []
+
+  facet-numbered : (f : ℕ) → Numbered (check-facet s f)
+  unfolding check-facet
+  facet-numbered f = in-order-numbered (_ ∷ _ ∷ []) (given-numbered 9 only-solid f (high s f), (given-numbered 10 only-solid f (twice s f), tt))
 
   later-numbered : All Numbered later-checks
   unfolding check-blanks check-limit check-corners check-closure
   later-numbered = (
-    given-numbered 2 (any isNan (s .points)),
+    each-numbered (vertices s) (λ i. given (on-solid 3 i) (blank (vertex s i))) (λ i. given-numbered 2 only-solid i (blank (vertex s i))),
     (
-      given-numbered 3 (any beyond (s .points)),
-      (given-numbered 4 (any (faulty s) (upTo (facets s))), (given-numbered 5 (any (differ (half-edges s)) (pairs (vertices s))), tt)),
+      each-numbered (vertices s) (λ i. given (on-solid 4 i) (out-of-range (vertex s i))) (λ i. given-numbered 3 only-solid i (out-of-range (vertex s i))),
+      (each-numbered (facets s) (check-facet s) facet-numbered, (given-numbered 5 only-solid _ (any (differ (half-edges s)) (pairs (vertices s))), tt)),
     ),
   )
 
@@ -152,13 +161,13 @@ module _ (s : Solid) where
   unfolding admission check-lengths check-sizes
   admission-numbered =
       in-order-numbered (check-lengths s ∷ check-sizes s ∷ later-checks)
-      (given-numbered 0 (uneven s), (given-numbered 1 (too-many s), later-numbered))
+      (given-numbered 0 only-solid 0 (uneven s), (given-numbered 1 only-solid 0 (too-many s), later-numbered))
 
   read-solid-numbered : (ps : List Float) (cs : List ℕ) → Numbered (read-solid s ps cs)
   unfolding read-solid check-sizes
   read-solid-numbered ps cs =
-      in-order-numbered (check-sizes s ∷ given 8 (too-short ps cs s) ∷ later-checks)
-      (given-numbered 1 (too-many s), (given-numbered 7 (too-short ps cs s), later-numbered))
+      in-order-numbered (check-sizes s ∷ given (answer-of 8) (too-short ps cs s) ∷ later-checks)
+      (given-numbered 1 only-solid 0 (too-many s), (given-numbered 7 nobody 0 (too-short ps cs s), later-numbered))
 
 pub read-success : (bs : List ℕ) (ps : List Float) (cs : List ℕ) → (read bs ps cs) .answer .number ≡ 0
     → (used : ℕ) × (s : Solid) × (layout bs ≡ laid used (s .points) (s .corners)) × (read-solid s ps cs ≡ Accepted)
@@ -179,12 +188,12 @@ read-success bs ps cs = by-case (layout bs)
 pub write-success : (s : Solid) (lent : List ℕ) → (write s lent) .answer .number ≡ 0 → (admission s ≡ Accepted) × (length (file s) ≤ length lent)
 unfolding write answer
 write-success s lent e =
-    let numbered = in-order-numbered checks (admission-numbered s, (given-numbered 7 (ltb (length lent) (length (file s))), tt)) in
+    let numbered = in-order-numbered checks (admission-numbered s, (given-numbered 7 nobody 0 (ltb (length lent) (length (file s))), tt)) in
     let (a, (b, end)) = all-accepted checks (numbered (checked (in-order checks) e)) in
     (a, ltb-false _ _ (not-given _ _ b))
   where
     checks : List Verdict
-    checks = admission s ∷ given 8 (ltb (length lent) (length (file s))) ∷ []
+    checks = admission s ∷ given (answer-of 8) (ltb (length lent) (length (file s))) ∷ []
 
     checked : (v : Verdict) → (writing v (file s) lent) .answer .number ≡ 0 → answer v .number ≡ 0
     checked Accepted e = refl
@@ -214,10 +223,10 @@ module _ (s : Solid) (ps : List Float) (cs : List ℕ) where
   unfolding admission read-solid
   admitted-read e h =
       let (c1, (c2, (c3, (c4, (c5, (c6, end)))))) = all-accepted _ e in
-      accepted-all _ (c2, (ap (given 8) h, (c3, (c4, (c5, (c6, tt))))))
+      accepted-all _ (c2, (ap (given (answer-of 8)) h, (c3, (c4, (c5, (c6, tt))))))
 
   pub read-admitted : uneven s ≡ false → read-solid s ps cs ≡ Accepted → (admission s ≡ Accepted) × (too-short ps cs s ≡ false)
   unfolding admission read-solid check-lengths
   read-admitted w e =
       let (c2, (c8, (c3, (c4, (c5, (c6, end)))))) = all-accepted _ e in
-      (accepted-all _ (ap (given 1) w, (c2, (c3, (c4, (c5, (c6, tt)))))), not-given _ _ c8)
+      (accepted-all _ (ap (given (on-solid 1 0)) w, (c2, (c3, (c4, (c5, (c6, tt)))))), not-given _ _ c8)

@@ -78,7 +78,7 @@ too-short ps cs s = ltb (length ps) (length (s .points)) || ltb (length cs) (len
 unfoldable pub read-solid : Solid → List Float → List ℕ → Verdict
 read-solid s ps cs =
     in-order
-    (check-sizes s ∷ given 8 (too-short ps cs s) ∷ check-blanks (s .points) ∷ check-limit (s .points) ∷ check-corners s ∷ check-closure s ∷ [])
+    (check-sizes s ∷ given (answer-of 8) (too-short ps cs s) ∷ check-blanks s ∷ check-limit s ∷ check-corners s ∷ check-closure s ∷ [])
 
 abbrev pub by-layout : Layout → List Float → List ℕ → Reading
 by-layout fault ps cs = unread (answer-of 9) ps cs

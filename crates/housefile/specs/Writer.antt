@@ -8,7 +8,7 @@ use Rattle.list_words.specs.Lists.{upTo, onto}
 use Rattle.solids.specs.declared.Answer.{Answer}
 use Rattle.solids.specs.declared.Verdict.{Verdict}
 use Rattle.solids.specs.declared.Verdict.the-variants.{Accepted, Refused}
-use Rattle.solids.specs.Refusals.{no-refusal, given, in-order}
+use Rattle.solids.specs.Refusals.{answer-of, no-refusal, given, in-order}
 use Rattle.solids.specs.Solids.{Solid, vertices, facets, vertex, corner}
 use Rattle.solids.specs.Admission.{admission}
 use Rattle.housefile.specs.declared.Written.{Written}
@@ -39,7 +39,7 @@ writing (Refused a) new old = unwritten a old
 
 -- "The writer checks 1 to 6, then 8."
 unfoldable pub write : Solid → List ℕ → Writing
-write s lent = let new = file s in writing (in-order (admission s ∷ given 8 (ltb (length lent) (length new)) ∷ [])) new lent
+write s lent = let new = file s in writing (in-order (admission s ∷ given (answer-of 8) (ltb (length lent) (length new)) ∷ [])) new lent
 
 -- what the call promises of its answer and of the lent bytes as they then are
 abbrev pub WriteFile : Solid → List ℕ → Written × List ℕ → Type 0

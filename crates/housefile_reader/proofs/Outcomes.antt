@@ -1,7 +1,7 @@
 -- What the reader answers: 9, 2 and 8 by the numbers that a walk found, and past them the solid's admission.
 use mathlib.Core.Path.{_≡_, sym, ap, ap₂, _∙_, subst}
 use mathlib.Core.Bool.{false, _||_}
-use mathlib.Core.List.{List, [], _∷_, _++_}
+use mathlib.Core.List.{List, _++_}
 use Prim.Native.Nat.{ℕ, _*_, _≤_}
 use native.Mathlib.Omega.{arith}
 use lib.ListN.{length, take, length-take}
@@ -10,23 +10,15 @@ use lib.Ieee.{Float}
 use borrow.Author.Tests.{ltb-false}
 use Rattle.list_words.proofs.Tests.{never, or-false}
 use Rattle.solids.specs.declared.Answer.{Answer}
-use Rattle.solids.specs.declared.Verdict.{Verdict}
 use Rattle.solids.specs.declared.Verdict.the-variants.{Accepted, Refused}
 use Rattle.solids.specs.Refusals.{answer, in-order, answer-of}
 use Rattle.solids.specs.Solids.{Solid, solid, vertices, facets}
 use Rattle.solids.specs.Admission.{uneven, too-many, check-sizes, admission}
-use Rattle.solids.proofs.Orders.{all-accepted, not-given}
+use Rattle.solids.proofs.Checks.{early, all-accepted, not-given}
 use Rattle.housefile_reader.specs.declared.Walk.{Walk}
 use Rattle.housefile.specs.Reader.{Layout, fault, laid, unread, reading, too-short, read-solid, by-layout}
 use Rattle.housefile_reader.specs.Words.{Found, Scanned, many, short, by-numbers, refusal, handed-over}
 use Rattle.housefile.proofs.Refusals.{later-checks, even, read-as-admission}
-
--- a refusal of the first checks decides
-early : (vs ws : List Verdict) (n : Answer) → in-order vs ≡ Refused n → in-order (vs ++ ws) ≡ Refused n
-unfolding in-order
-early [] ws n e = let z : _≡_ {A = ℕ} 0 1 = cc in absurd (omega arith)
-early (Accepted ∷ vs) ws n e = early vs ws n e
-early (Refused k ∷ vs) ws n e = e
 
 there : {A : Type 0} (n : ℕ) (l : List A) → length (take n l) ≡ n → n ≤ length l
 there n l e = omega (arith, e, length-take n l)

@@ -10,7 +10,7 @@ use lib.Ieee.{Float}
 use Rattle.points.specs.Points.{coordinates}
 use Rattle.solids.specs.declared.Answer.{Answer}
 use Rattle.solids.specs.declared.Verdict.{Verdict}
-use Rattle.solids.specs.Refusals.{given, in-order}
+use Rattle.solids.specs.Refusals.{answer-of, on-solid, given, in-order}
 use Rattle.solids.specs.Solids.{Solid}
 use Rattle.solids.specs.Admission.{admission}
 use Rattle.housefile.specs.declared.Read.{Read}
@@ -70,7 +70,7 @@ abbrev pub short : Walk → ℕ → ℕ → Bool
 short w room-points room-corners = ltb room-points (3 * w .vertices) || ltb room-corners (3 * w .facets)
 
 abbrev pub by-numbers : Walk → ℕ → ℕ → List Verdict
-by-numbers w room-points room-corners = given 9 (w .fault) ∷ given 2 (many w) ∷ given 8 (short w room-points room-corners) ∷ []
+by-numbers w room-points room-corners = given (answer-of 9) (w .fault) ∷ given (on-solid 2 0) (many w) ∷ given (answer-of 8) (short w room-points room-corners) ∷ []
 
 unfoldable pub refusal : Walk → ℕ → ℕ → Verdict
 refusal w room-points room-corners = in-order (by-numbers w room-points room-corners)

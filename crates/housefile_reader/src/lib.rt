@@ -117,19 +117,19 @@ fn refusal(w: Walk, room_points: usize, room_corners: usize) -> Verdict
     ensures { λ r. ⌜ r ≡ Hr.refusal w «room_points» «room_corners» ⌝ }
 {
     if w.fault {
-        return Verdict::Refused(Answer { number: 9 });
+        return Verdict::Refused(Answer::NO_LAYOUT);
     }
     if w.vertices > 128 {
-        return Verdict::Refused(Answer { number: 2 });
+        return Verdict::Refused(Answer::TOO_MANY);
     }
     if w.facets > 256 {
-        return Verdict::Refused(Answer { number: 2 });
+        return Verdict::Refused(Answer::TOO_MANY);
     }
     if room_points < 3 * w.vertices {
-        return Verdict::Refused(Answer { number: 8 });
+        return Verdict::Refused(Answer::TOO_SHORT);
     }
     if room_corners < 3 * w.facets {
-        return Verdict::Refused(Answer { number: 8 });
+        return Verdict::Refused(Answer::TOO_SHORT);
     }
     Verdict::Accepted
 }
@@ -163,7 +163,7 @@ fn hand_over(
     list_stores::copy_points(from_points, points);
     list_stores::copy_corners(from_corners, corners);
     Read {
-        answer: Answer { number: 0 },
+        answer: Answer::SUCCESS,
         vertices: from_points.len() / 3,
         facets: from_corners.len() / 3,
         used,

@@ -54,7 +54,7 @@ pub fn write(points: &[f64], corners: &[u32], bytes: &mut [u8]) -> Written
     let end_at = facets_at + 14 * (corners.len() / 3);
     if bytes.len() < end_at + 2 {
         return Written {
-            answer: Answer { number: 8 },
+            answer: Answer::TOO_SHORT,
             used: 0,
         };
     }
@@ -62,7 +62,7 @@ pub fn write(points: &[f64], corners: &[u32], bytes: &mut [u8]) -> Written
     put_facets(corners, bytes, facets_at);
     housefile_records::put_end(bytes, end_at);
     Written {
-        answer: Answer { number: 0 },
+        answer: Answer::SUCCESS,
         used: end_at + 2,
     }
 }

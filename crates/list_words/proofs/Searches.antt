@@ -1,10 +1,9 @@
--- Searches: what finds one that passes a test in a list, and what a loop that looks for the first knows at each turn, over the numbers below n.
+-- Searches: what finds one that passes a test in a list, in lists put together and among the numbers below n.
 use mathlib.Core.Path.{_≡_, refl, ap, _∙_}
 use mathlib.Core.Bool.{Bool, true, false, _||_}
 use mathlib.Core.List.{List, [], _∷_, _++_, flatMap}
-use Prim.Native.Nat.{ℕ, zero, suc, _+_, _<_}
+use Prim.Native.Nat.{ℕ, zero, suc, _<_}
 use native.Mathlib.Omega.{arith}
-use native.Mathlib.Numerals.{add-one}
 use lib.ListN.{length, getD}
 use Rattle.list_words.specs.Lists.{any, upTo}
 use Rattle.list_words.proofs.Tests.{true-any}
@@ -36,11 +35,6 @@ unfolding any flatMap
 any-flatMap p g [] = refl
 any-flatMap p g (x ∷ l) = any-append p (g x) (flatMap g l) ∙ ap (λ b. any p (g x) || b) (any-flatMap p g l)
 
--- the numbers below n, seen up to i
-module _ (p : ℕ → Bool) where
-  pub any-upTo-next : (i : ℕ) → any p (upTo i) ≡ false → p i ≡ false → any p (upTo (i + 1)) ≡ false
-  unfolding upTo any
-  any-upTo-next i e f = rw (add-one i, any-append p (upTo i) (i ∷ []), e, f)
-
-  pub any-upTo-found : (n i : ℕ) → i < n → p i ≡ true → any p (upTo n) ≡ true
-  any-upTo-found n i h e = true-any p (mem-upTo n i h) e
+-- among the numbers below n
+pub any-upTo-found : (p : ℕ → Bool) (n i : ℕ) → i < n → p i ≡ true → any p (upTo n) ≡ true
+any-upTo-found p n i h e = true-any p (mem-upTo n i h) e

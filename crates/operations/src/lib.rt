@@ -92,11 +92,11 @@ fn checked(
 ) -> Made
     ensures { λ r. ⌜ Rl.Operated op (So.lent (ap .entry) (ac .entry)) (So.lent (bp .entry) (bc .entry)) (Op.lists (now (points .entry)) (now (corners .entry)) (now (origins .entry))) r (Op.lists (now (points .exit)) (now (corners .exit)) (now (origins .exit))) ⌝ }
 {
-    let of_a = admission::admit(ap, ac);
+    let of_a = admission::admit(ap, ac).told_of(solids::SOLID_A);
     if let Verdict::Refused(n) = of_a {
         return result_lists::refused(n);
     }
-    let of_b = admission::admit(bp, bc);
+    let of_b = admission::admit(bp, bc).told_of(solids::SOLID_B);
     if let Verdict::Refused(m) = of_b {
         return result_lists::refused(m);
     }
@@ -118,6 +118,6 @@ pub fn operate(
 {
     match Operation::of_code(code) {
         Chosen::Known(op) => checked(op, ap, ac, bp, bc, points, corners, origins),
-        Chosen::Unknown => result_lists::refused(Answer { number: 7 }),
+        Chosen::Unknown => result_lists::refused(Answer::UNKNOWN_CODE),
     }
 }

@@ -31,13 +31,13 @@ pub fn copied<'a>(ac: &'a [u32], bc: &'a [u32], origin: usize, part: &mut [u32])
     let found = shown(ac, bc, origin);
     if part.len() < found.len() {
         return Written {
-            answer: Answer { number: 8 },
+            answer: Answer::TOO_SHORT,
             used: 0,
         };
     }
     list_stores::copy_corners(found, part);
     Written {
-        answer: Answer { number: 0 },
+        answer: Answer::SUCCESS,
         used: found.len(),
     }
 }

@@ -74,7 +74,7 @@ pub fn attempt(
         base: n.base,
     };
     if result_numbers::too_short(points.len(), corners.len(), origins.len(), n.vertices, m) {
-        return Tried::Done(refused(Answer { number: 8 }));
+        return Tried::Done(refused(Answer::TOO_SHORT));
     }
     result_points::put_points(z, ap, ac, bp, bc, &ends, &inc, &first, crossed, points);
     let mut list = [0u32; 6150];
@@ -91,7 +91,7 @@ pub fn attempt(
         origins,
     );
     Tried::Done(Made {
-        answer: Answer { number: 0 },
+        answer: Answer::SUCCESS,
         vertices: n.vertices,
         triangles: m,
     })

@@ -4,7 +4,7 @@ use Prim.Native.Nat.{ℕ, suc}
 use mathlib.Core.Bool.{true, false}
 use Rattle.solids.specs.declared.Answer.{Answer}
 use Rattle.solids.specs.declared.Verdict.the-variants.{Accepted, Refused}
-use Rattle.solids.specs.Refusals.{in-order, answer-of}
+use Rattle.solids.specs.Refusals.{in-order, answer-of, of-A, of-B}
 use Rattle.solids.specs.Solids.{Solid}
 use Rattle.solids.specs.Admission.{admission}
 use Rattle.results.specs.declared.Operation.{Operation}
@@ -23,11 +23,11 @@ module _ (a b : Solid) (l : Lent) where
     unfolding operation
     by-code code known = rw known
 
-    pub then-A : (n : Answer) → admission a ≡ Refused n → operate op a b l ≡ refusal n l
+    pub then-A : (n : Answer) → of-A (admission a) ≡ Refused n → operate op a b l ≡ refusal n l
     unfolding operate in-order
     then-A n e = rw e
 
-    pub then-B : (n : Answer) → admission a ≡ Accepted → admission b ≡ Refused n → operate op a b l ≡ refusal n l
+    pub then-B : (n : Answer) → admission a ≡ Accepted → of-B (admission b) ≡ Refused n → operate op a b l ≡ refusal n l
     unfolding operate in-order
     then-B n d e = rw (d, e)
 

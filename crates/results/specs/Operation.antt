@@ -10,7 +10,7 @@ use Rattle.list_words.specs.Lists.{onto}
 use Rattle.solids.specs.declared.Answer.{Answer}
 use Rattle.solids.specs.declared.Verdict.{Verdict}
 use Rattle.solids.specs.declared.Verdict.the-variants.{Accepted, Refused}
-use Rattle.solids.specs.Refusals.{answer-of, no-refusal, given, in-order}
+use Rattle.solids.specs.Refusals.{answer-of, no-refusal, given, in-order, of-A, of-B}
 use Rattle.solids.specs.Solids.{Solid}
 use Rattle.solids.specs.Admission.{admission}
 use Rattle.results.specs.declared.Made.{Made}
@@ -65,7 +65,7 @@ outcome (Refused n) r l = refusal n l
 
 -- "then A by 1 to 6, then B by 1 to 6, then 8"
 unfoldable pub operate : Operation → Solid → Solid → Lent → Outcome
-operate op a b l = let r = result op a b in outcome (in-order (admission a ∷ admission b ∷ given 8 (too-short l r) ∷ [])) r l
+operate op a b l = let r = result op a b in outcome (in-order (of-A (admission a) ∷ of-B (admission b) ∷ given (answer-of 8) (too-short l r) ∷ [])) r l
 
 -- "An operation checks 7": an unknown operation code
 abbrev pub by-choice : Chosen → Solid → Solid → Lent → Outcome

@@ -12,7 +12,7 @@ use Rattle.solids.specs.declared.Answer.{Answer}
 use Rattle.solids.specs.declared.Verdict.{Verdict}
 use Rattle.solids.specs.declared.Verdict.the-variants.{Accepted}
 use Rattle.solids.specs.declared.Verdict.the-variants as Vd
-use Rattle.solids.specs.Refusals.{answer-of}
+use Rattle.solids.specs.Refusals.{answer-of, on-solid, of-A, of-B}
 use Rattle.solids.specs.Solids.{Solid, solid}
 use Rattle.solids.specs.Admission.{admission}
 use Rattle.solids.proofs.Orders.{then-2}
@@ -33,7 +33,7 @@ use Rattle.solid_input.specs.Words.{front, kept-admission, of-walks, of-
 
 -- ---- one walk
 module _ (w : Walk) (ps : List Float) (cs : List ℕ) where
-  kept-many : many w ≡ true → kept-admission w ps cs ≡ Vd.Refused (answer-of 2)
+  kept-many : many w ≡ true → kept-admission w ps cs ≡ Vd.Refused (on-solid 2 0)
   unfolding kept-admission
   kept-many e = rw e
 
@@ -63,11 +63,11 @@ module _ (w : Walk) (ps : List Float) (cs : List ℕ) where
 
 -- ---- two walks
 module _ (code : ℕ) (w : Walk) (ps : List Float) (cs : List ℕ) (v : Walk) (qs : List Float) (es : List ℕ) where
-  pub then-A-kept : (n : Answer) → kept-admission w ps cs ≡ Vd.Refused n → of-walks code w ps cs v qs es ≡ Refused n
+  pub then-A-kept : (n : Answer) → of-A (kept-admission w ps cs) ≡ Vd.Refused n → of-walks code w ps cs v qs es ≡ Refused n
   unfolding of-walks
   then-A-kept n e = rw e
 
-  pub then-B-kept : (n : Answer) → kept-admission w ps cs ≡ Accepted → kept-admission v qs es ≡ Vd.Refused n → of-walks code w ps cs v qs es ≡ Refused n
+  pub then-B-kept : (n : Answer) → kept-admission w ps cs ≡ Accepted → of-B (kept-admission v qs es) ≡ Vd.Refused n → of-walks code w ps cs v qs es ≡ Refused n
   unfolding of-walks
   then-B-kept n d e = rw (d, e)
 
@@ -84,9 +84,9 @@ module _ (code : ℕ) (w : Walk) (ps : List Float) (cs : List ℕ) (v : Walk) (q
     b = solid ys gs
 
     by-verdicts : (m n : Verdict) → kept-admission w ps cs ≡ m → kept-admission v qs es ≡ n → Tells (operate op a b room) (of-walks code w ps cs v qs es) ps cs qs es
-    by-verdicts (Vd.Refused k) n d e = rw (then-A-kept k d) (then-A a b room op k (sym (kept-found w ps cs i xs ds f) ∙ d))
+    by-verdicts (Vd.Refused k) n d e = rw (then-A-kept _ (ap of-A d)) (then-A a b room op _ (ap of-A (sym (kept-found w ps cs i xs ds f) ∙ d)))
     by-verdicts Accepted (Vd.Refused k) d e =
-        rw (then-B-kept k d e) (then-B a b room op k (sym (kept-found w ps cs i xs ds f) ∙ d) (sym (kept-found v qs es j ys gs g) ∙ e))
+        rw (then-B-kept _ d (ap of-B e)) (then-B a b room op _ (sym (kept-found w ps cs i xs ds f) ∙ d) (ap of-B (sym (kept-found v qs es j ys gs g) ∙ e)))
     by-verdicts Accepted Accepted d e =
         let no-w = accepted-few w ps cs d in
         let no-v = accepted-few v qs es e in

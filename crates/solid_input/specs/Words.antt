@@ -1,13 +1,13 @@
 -- Words of contracts; no public statement needs them. What an input comes to, by the fronts of two walks' lists, or by a refusal.
 use mathlib.Core.Path.{_≡_}
-use mathlib.Core.Bool.{true, cond}
+use mathlib.Core.Bool.{cond}
 use mathlib.Core.List.{List}
 use Prim.Native.Nat.{ℕ, _*_, _≤_}
 use lib.ListN.{length, take}
 use lib.Ieee.{Float}
 use Rattle.solids.specs.declared.Verdict.{Verdict}
 use Rattle.solids.specs.declared.Verdict.the-variants as Vd
-use Rattle.solids.specs.Refusals.{given}
+use Rattle.solids.specs.Refusals.{on-solid, of-A, of-B}
 use Rattle.solids.specs.Solids.{Solid, solid}
 use Rattle.solids.specs.Admission.{admission}
 use Rattle.results.specs.declared.Operation.{Operation}
@@ -25,7 +25,7 @@ front w ps cs = solid (take (3 * w .vertices) ps) (take (3 * w .facets) cs)
 
 -- its admission; of too many vertices or facets not all are kept
 unfoldable pub kept-admission : Walk → List Float → List ℕ → Verdict
-kept-admission w ps cs = cond (many w) (given 2 true) (admission (front w ps cs))
+kept-admission w ps cs = cond (many w) (Vd.Refused (on-solid 2 0)) (admission (front w ps cs))
 
 abbrev pub past : Verdict → Taken → Taken
 past Vd.Accepted t = t
@@ -33,7 +33,7 @@ past (Vd.Refused a) t = Refused a
 
 -- "then come A's other refusals, B's"
 unfoldable pub of-walks : ℕ → Walk → List Float → List ℕ → Walk → List Float → List ℕ → Taken
-of-walks code w ps cs v qs es = past (kept-admission w ps cs) (past (kept-admission v qs es) (Both code w v))
+of-walks code w ps cs v qs es = past (of-A (kept-admission w ps cs)) (past (of-B (kept-admission v qs es)) (Both code w v))
 
 -- two files behind each other
 unfoldable pub of-bytes : Operation → List ℕ → Outcome

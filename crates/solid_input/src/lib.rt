@@ -23,10 +23,10 @@ fn admitted(w: Walk, points: &[f64], corners: &[u32]) -> Verdict
     ensures { λ r. ⌜ r ≡ Si.kept-admission w (now (points .entry)) (now (corners .entry)) ⌝ }
 {
     if w.vertices > 128 {
-        return Verdict::Refused(Answer { number: 2 });
+        return Verdict::Refused(Answer::TOO_MANY);
     }
     if w.facets > 256 {
-        return Verdict::Refused(Answer { number: 2 });
+        return Verdict::Refused(Answer::TOO_MANY);
     }
     let n = 3 * w.vertices;
     let m = 3 * w.facets;
@@ -45,19 +45,16 @@ fn of_walks(
 ) -> Taken
     ensures { λ r. ⌜ r ≡ Si.of-walks code first (now (ap .entry)) (now (ac .entry)) second (now (bp .entry)) (now (bc .entry)) ⌝ }
 {
-    let of_a = admitted(first, ap, ac);
+    let of_a = admitted(first, ap, ac).told_of(solids::SOLID_A);
     if let Verdict::Refused(n) = of_a {
         return Taken::Refused(n);
     }
-    let of_b = admitted(second, bp, bc);
+    let of_b = admitted(second, bp, bc).told_of(solids::SOLID_B);
     if let Verdict::Refused(n) = of_b {
         return Taken::Refused(n);
     }
     Taken::Both(code, first, second)
 }
-
-// The answer to a broken layout.
-const BROKEN: Answer = Answer { number: 9 };
 
 // "a layout fault in either file or trailing bytes give 9"
 fn of_bytes(
@@ -73,15 +70,15 @@ fn of_bytes(
 {
     let first = housefile_reader::scan(bytes, ap, ac);
     if first.fault {
-        return Taken::Refused(BROKEN);
+        return Taken::Refused(Answer::NO_LAYOUT);
     }
     let used = first.used;
     let second = housefile_reader::scan(&bytes[used..], bp, bc);
     if second.fault {
-        return Taken::Refused(BROKEN);
+        return Taken::Refused(Answer::NO_LAYOUT);
     }
     if used + second.used < bytes.len() {
-        return Taken::Refused(BROKEN);
+        return Taken::Refused(Answer::NO_LAYOUT);
     }
     of_walks(code, first, ap, ac, second, bp, bc)
 }
@@ -99,9 +96,9 @@ fn by_code(
     ensures { λ r. ⌜ Si.Tells (Li.by-letter (In.chosen code) (now (bytes .entry))) r (now (ap .exit)) (now (ac .exit)) (now (bp .exit)) (now (bc .exit)) ⌝ }
 {
     if code > 2 {
-        Taken::Refused(Answer { number: 7 })
+        Taken::Refused(Answer::UNKNOWN_CODE)
     } else if bytes.len() > 32767 {
-        Taken::Refused(Answer { number: 9 })
+        Taken::Refused(Answer::NO_LAYOUT)
     } else {
         of_bytes(code, bytes, ap, ac, bp, bc)
     }
@@ -131,7 +128,7 @@ pub fn take_in(
     ensures { λ r. ⌜ Si.Tells (Li.program (now (input .entry))) r (now (ap .exit)) (now (ac .exit)) (now (bp .exit)) (now (bc .exit)) ⌝ }
 {
     if input.len() == 0 {
-        return Taken::Refused(Answer { number: 9 });
+        return Taken::Refused(Answer::NO_LAYOUT);
     }
     by_code(code_of(input[0]), &input[1..], ap, ac, bp, bc)
 }

@@ -1,5 +1,5 @@
 -- What admission says, as facts: a solid is accepted exactly if it is `Passed`. Likewise a point.
-use mathlib.Core.Path.{_≡_, refl, ap}
+use mathlib.Core.Path.{_≡_, refl, sym, ap, _∙_}
 use mathlib.Core.Logic.{_≢_}
 use mathlib.Core.Bool.{Bool, true, false, not, _||_}
 use Prim.Native.Nat.{ℕ, _%_, _<_, _≤_}
@@ -10,15 +10,18 @@ use borrow.Author.Tests.{ltb-false, leb-false, eqb-true, eqb-false, le-ltb, lt-l
 use Rattle.list_words.specs.Lists.{upTo, any, turned}
 use Rattle.list_words.proofs.Sums.{All, all-at, all-mono, all-flatMap}
 use Rattle.list_words.proofs.Tests.{not-false, or-false, any-false, false-any}
-use Rattle.list_words.proofs.UpTo.{all-upTo, mem-upTo}
+use Rattle.list_words.proofs.Threes.{any-threes}
+use Rattle.list_words.proofs.UpTo.{all-upTo}
 use Rattle.list_words.proofs.Closed.{closed-of-all}
 use Rattle.points.specs.declared.Point.{Point}
-use Rattle.points.specs.Points.{coordinates}
+use Rattle.points.specs.Points.{coordinates, zero-number}
 use Rattle.solids.specs.declared.Verdict.the-variants.{Accepted}
-use Rattle.solids.specs.Solids.{Solid, Half, vertices, facets, corner, half-edges-of, facet-half-edges, half-edges, number-of, pairs}
-use Rattle.solids.specs.Admission.{uneven, too-many, limit, beyond, too-high, named-twice, faulty, differ}
-use Rattle.solids.specs.Admission.{check-lengths, check-sizes, check-blanks, check-limit, check-corners, check-closure, admission, point-admission}
-use Rattle.solids.proofs.Orders.{all-accepted, not-given, else-accepted, point-else-accepted}
+use Rattle.solids.specs.Refusals.{in-order, given}
+use Rattle.solids.specs.Solids.{Solid, Half, vertices, facets, vertex, corner, half-edges-of, facet-half-edges, half-edges, number-of, pairs}
+use Rattle.solids.specs.Admission.{uneven, too-many, limit, beyond, too-high, high, named-twice, twice, differ}
+use Rattle.solids.specs.Admission.{check-lengths, check-sizes, check-blanks, check-limit, check-facet, check-corners, check-closure, admission, point-admission}
+use Rattle.solids.proofs.Checks.{refused-accepted, all-accepted, not-given, none-given, given-none, each-accepts, accepts-each}
+use Rattle.solids.proofs.Orders.{last-6, point-else-accepted}
 use Rattle.solids.proofs.Pairs.{mem-pairs, all-pairs}
 
 -- three different vertex numbers, all below n
@@ -79,7 +82,7 @@ once p q r e =
     (eqb-false p q pq, eqb-false q r qr, eqb-false r p rp)
 
 module _ (s : Solid) where
-  even : uneven s ≡ false → (length (s .points) % 3 ≡ 0) × (length (s .corners) % 3 ≡ 0)
+  pub even : uneven s ≡ false → (length (s .points) % 3 ≡ 0) × (length (s .corners) % 3 ≡ 0)
   unfolding uneven
   even e =
       let r = or-false (not (eqb (length (s .points) % 3) 0)) (not (eqb (length (s .corners) % 3) 0)) e in
@@ -89,7 +92,7 @@ module _ (s : Solid) where
   unfolding uneven
   even-back a b = rw (a, b)
 
-  few : too-many s ≡ false → (vertices s ≤ 128) × (facets s ≤ 256)
+  pub few : too-many s ≡ false → (vertices s ≤ 128) × (facets s ≤ 256)
   unfolding too-many
   few e = let r = or-false (ltb 128 (vertices s)) (ltb 256 (facets s)) e in (ltb-false _ _ (r .0), ltb-false _ _ (r .1))
 
@@ -97,25 +100,43 @@ module _ (s : Solid) where
   unfolding too-many
   few-back a b = rw (le-ltb 128 (vertices s) a, le-ltb 256 (facets s) b)
 
-  pub fine : (f : ℕ) → faulty s f ≡ false → Proper (vertices s) (corner s f 0) (corner s f 1) (corner s f 2)
-  unfolding faulty
+  -- of whole threes the vertices have every coordinate
+  pub by-vertex : (p : Float → Bool) → length (s .points) % 3 ≡ 0 → any p (s .points) ≡ any (λ i. any p (coordinates (vertex s i))) (upTo (vertices s))
+  by-vertex p whole = any-threes p (s .points) zero-number whole
+
+  -- a facet that is accepted has neither fault
+  pub neither : (f : ℕ) → check-facet s f ≡ Accepted → (high s f ≡ false) × (twice s f ≡ false)
+  unfolding check-facet in-order
+  neither f e = by (high s f) refl (twice s f) refl
+    where
+      by : (h : Bool) → high s f ≡ h → (t : Bool) → twice s f ≡ t → (high s f ≡ false) × (twice s f ≡ false)
+      by true i true j = absurd (refused-accepted _ (simp (i, j) at e))
+      by true i false j = absurd (refused-accepted _ (simp (i, j) at e))
+      by false i true j = absurd (refused-accepted _ (simp (i, j) at e))
+      by false i false j = (i, j)
+
+  fine : (f : ℕ) → check-facet s f ≡ Accepted → Proper (vertices s) (corner s f 0) (corner s f 1) (corner s f 2)
   fine f e =
       let p = corner s f 0 in
       let q = corner s f 1 in
       let r = corner s f 2 in
-      let c = or-false (too-high (vertices s) p q r) (named-twice p q r) e in
-      let (bp, bq, br) = not-high (vertices s) p q r (c .0) in
-      let (pq, qr, rp) = once p q r (c .1) in
+      let (no-10, no-11) = neither f e in
+      let (bp, bq, br) = not-high (vertices s) p q r no-10 in
+      let (pq, qr, rp) = once p q r no-11 in
       record { below-p = bp; below-q = bq; below-r = br; apart-pq = pq; apart-qr = qr; apart-rp = rp }
 
-  fine-back : (f : ℕ) → Proper (vertices s) (corner s f 0) (corner s f 1) (corner s f 2) → faulty s f ≡ false
-  unfolding faulty too-high named-twice
+  fine-back : (f : ℕ) → Proper (vertices s) (corner s f 0) (corner s f 1) (corner s f 2) → check-facet s f ≡ Accepted
+  unfolding check-facet in-order too-high named-twice
   fine-back f h =
       let p = corner s f 0 in
       let q = corner s f 1 in
       let r = corner s f 2 in
       let n = vertices s in
       rw (lt-leb n p (h .below-p), lt-leb n q (h .below-q), lt-leb n r (h .below-r), ne-eqb p q (h .apart-pq), ne-eqb q r (h .apart-qr), ne-eqb r p (h .apart-rp))
+
+  pub all-fine : check-corners s ≡ Accepted → All-proper s
+  unfolding check-corners
+  all-fine e f i = fine f (each-accepts (check-facet s) (facets s) e f i)
 
   abbrev pub Matched : Half → Type 0
   Matched h = number-of h (half-edges s) ≡ number-of (turned h) (half-edges s)
@@ -143,28 +164,31 @@ module _ (s : Solid) where
 
   -- ---- both ways
   pub passed : admission s ≡ Accepted → Passed s
-  unfolding admission check-lengths check-sizes check-blanks check-limit check-corners check-closure
+  unfolding admission check-lengths check-sizes check-blanks check-limit check-closure
   passed e =
       let (c1, (c2, (c3, (c4, (c5, (c6, end)))))) = all-accepted _ e in
       let r1 = even (not-given _ _ c1) in
       let r2 = few (not-given _ _ c2) in
-      let r5 : All-proper s = λ f i. fine f (all-at (λ f. faulty s f ≡ false) (mem-upTo (facets s) f i) (any-false (faulty s) (upTo (facets s)) (not-given _ _ c5))) in
+      let r5 = all-fine c5 in
       record {
         points-whole = r1 .0;
         corners-whole = r1 .1;
         few-vertices = r2 .0;
         few-facets = r2 .1;
-        present = any-false isNan (s .points) (not-given _ _ c3);
-        near = any-false beyond (s .points) (not-given _ _ c4);
+        present = any-false isNan (s .points) (by-vertex isNan (r1 .0) ∙ none-given _ _ (vertices s) c3);
+        near = any-false beyond (s .points) (by-vertex beyond (r1 .0) ∙ none-given _ _ (vertices s) c4);
         proper = r5;
         closed = shut r5 (not-given _ _ c6);
       }
 
   pub admitted : Passed s → admission s ≡ Accepted
+  unfolding check-blanks check-limit check-corners check-closure
   admitted h =
-      else-accepted s (even-back (h .points-whole) (h .corners-whole)) (few-back (h .few-vertices) (h .few-facets))
-      (false-any isNan (s .points) (h .present)) (false-any beyond (s .points) (h .near))
-      (false-any (faulty s) (upTo (facets s)) (all-upTo (λ f. faulty s f ≡ false) (facets s) (λ f i. fine-back f (h .proper f i)))) (shut-back (h .closed))
+      let whole = h .points-whole in
+      last-6 s (even-back whole (h .corners-whole)) (few-back (h .few-vertices) (h .few-facets))
+      (given-none _ _ (vertices s) (sym (by-vertex isNan whole) ∙ false-any isNan (s .points) (h .present)))
+      (given-none _ _ (vertices s) (sym (by-vertex beyond whole) ∙ false-any beyond (s .points) (h .near)))
+      (accepts-each (check-facet s) (facets s) (λ f i. fine-back f (h .proper f i))) Accepted (ap (given _) (shut-back (h .closed)))
 
 -- ---- a point
 pub record Point-passed (v : Point) : Type 0 where
@@ -173,7 +197,7 @@ pub record Point-passed (v : Point) : Type 0 where
 
 module _ (v : Point) where
   pub point-passed : point-admission v ≡ Accepted → Point-passed v
-  unfolding point-admission check-blanks check-limit
+  unfolding point-admission
   point-passed e =
       let (c3, (c4, end)) = all-accepted _ e in
       record { present = any-false isNan (coordinates v) (not-given _ _ c3); near = any-false beyond (coordinates v) (not-given _ _ c4) }

@@ -1,3 +1,4 @@
+pub mod Checks
 pub mod Orders
 pub mod Pairs
 pub mod Admitted
@@ -8,5 +9,6 @@ pub mod Limit
 pub mod Blank
 pub mod Tally
 pub mod Closure
+pub mod Places
 pub mod Room
 pub mod Sizes

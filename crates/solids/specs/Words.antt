@@ -6,13 +6,16 @@ use lib.ListN.{length, getD}
 use lib.IntN.{ℤ}
 use lib.Ieee.{Float, isNan}
 use mathlib.Core.Bool.{Bool, true, false}
-use Rattle.list_words.specs.Lists.{upTo}
+use Rattle.list_words.specs.Lists.{upTo, any}
 use Rattle.points.specs.declared.Point.{Point}
+use Rattle.points.specs.Points.{coordinates}
 use Rattle.points.specs.declared.Axis.the-variants.{Z}
 use Rattle.crossings.specs.declared.Facet.{Facet}
 use Rattle.crossings.specs.Crossings.{S, vf, fv}
-use Rattle.solids.specs.Solids.{Solid, Half, solid, number-of, facet-half-edges}
+use Rattle.solids.specs.Solids.{Solid, Half, solid, vertex, number-of, facet-half-edges}
 use Rattle.solids.specs.declared.Counted.{Counted}
+use Rattle.solids.specs.declared.Verdict.{Verdict}
+use Rattle.solids.specs.Refusals.{on-solid, given}
 use Rattle.solids.specs.Admission.{beyond}
 use Rattle.solids.specs.Containment.{in-A, in-B, count-as-A, count-as-B}
 
@@ -20,6 +23,13 @@ use Rattle.solids.specs.Containment.{in-A, in-B, count-as-A, count-as-B}
 abbrev pub bad : Bool → Float → Bool
 bad true x = isNan x
 bad false x = beyond x
+
+abbrev pub bad-number : Bool → ℕ
+bad-number true = 3
+bad-number false = 4
+
+abbrev pub check-vertex : Bool → Solid → ℕ → Verdict
+check-vertex blanks s i = given (on-solid (bad-number blanks) i) (any (bad blanks) (coordinates (vertex s i)))
 
 -- The table in which half-edges are counted has 128 rows of 128: what stands at 128 * p + q is how many half-edges run from p to q.
 abbrev pub place : Half → ℕ

@@ -1,9 +1,12 @@
 // Half-edges counted in a table of 128 rows of 128, which is also where the closure test looks.
+use solids::Answer;
+use solids::Verdict;
 ghost use mathlib.Core.Path.{_≡_};
 ghost use mathlib.Core.List.{[]};
 ghost use Prim.Native.Nat.{_+_, _*_, _/_, _<_, _≤_};
 ghost use lib.ListN.{length, getD, set};
-ghost use Rattle.list_words.specs.Lists.{any, upTo};
+ghost use Rattle.list_words.specs.Lists.{any};
+ghost use Rattle.solids.specs.Refusals.{at-each};
 ghost use Rattle.solids.specs.Solids as So;
 ghost use Rattle.solids.specs.Admission as Ad;
 ghost use Rattle.solids.specs.Words as Sw;
@@ -82,16 +85,17 @@ fn facet_differs(table: &[u16; 16384], corners: &[u32], f: usize) -> bool
     }
 }
 
-pub fn some_differ(table: &[u16; 16384], corners: &[u32]) -> bool
+// The first facet with such a half-edge, told as the place of 6.
+pub fn check_half_edges(table: &[u16; 16384], corners: &[u32]) -> Verdict
     requires { ⌜ Sw.Low (now corners) × Sw.Tallied (now table) (So.half-edges (So.solid [] (now corners))) ⌝ }
-    ensures { λ r. ⌜ r ≡ any (λ f. any (Ad.differ (So.half-edges (So.solid [] (now (corners .entry))))) (So.facet-half-edges (So.solid [] (now (corners .entry))) f)) (upTo (length (now (corners .entry)) / 3)) ⌝ }
+    ensures { λ r. ⌜ r ≡ at-each (length (now (corners .entry)) / 3) (Ad.check-half-edges (So.solid [] (now (corners .entry)))) ⌝ }
 {
     let mut f = 0;
     while f < corners.len() / 3 {
         if facet_differs(table, corners, f) {
-            return true;
+            return Verdict::Refused(Answer::on_solid(6, f));
         }
         f += 1;
     }
-    false
+    Verdict::Accepted
 }

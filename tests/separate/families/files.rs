@@ -3,21 +3,20 @@
 use super::bodies::t;
 use super::pairs::{largest, pick_pair, signed_zeros};
 use super::random::Random;
-use super::refusals::{blank, put_faults, put_inner_fault, too_many_facets, too_many_vertices};
+use super::refusals::{blank, put_faults, put_faults_in_turn, too_many_facets, too_many_vertices};
 use super::rods::sized;
 use crate::admission::Solid;
 use crate::house::records;
 use crate::language::Request;
 
-/// A solid whose lists are whole threes, as a file holds them; with faults once in two times.
-fn solid_for_file(r: &mut Random) -> Solid {
+/// A solid whose lists are whole threes, as a file holds them: every fourth too large, the
+/// others as a rule with faults.
+fn solid_for_file(r: &mut Random, number: u64) -> Solid {
     let mut solid = if r.once_in(16) { largest(r).0 } else { pick_pair(r).0 };
-    match r.below(8) {
-        0 => too_many_facets(r, &mut solid),
-        1 => too_many_vertices(r, &mut solid),
-        2..=4 => put_inner_fault(r, &mut solid),
-        5 => put_faults(r, &mut solid),
-        _ => {}
+    if number % 4 == 0 {
+        r.pick(&[too_many_facets, too_many_vertices])(r, &mut solid);
+    } else if !r.once_in(4) {
+        put_faults_in_turn(r, &mut solid, number - number / 4 - 1);
     }
     solid.points.truncate(3 * solid.vertices());
     solid.corners.truncate(3 * solid.facets());
@@ -50,12 +49,12 @@ fn vertex_behind(r: &mut Random, solid: &Solid) -> Vec<u8> {
 /// A house file, whole or with something wrong.
 fn some_file(r: &mut Random, solid: &Solid) -> Vec<u8> {
     let mut file = records(solid);
-    match r.below(14) {
+    match r.below(17) {
         0 => file.truncate(r.below(file.len() + 1)),
         1 => damage(r, &mut file, solid.vertices()),
-        2 | 3 => file = vertex_behind(r, solid),
-        4 => file.extend(r.pick(&[&b"EN"[..], b"VX", b"F", b"\0\0\0", b"ENEN"])),
-        5 => file.splice(0..0, blank_record(r)).for_each(drop),
+        2..=4 => file = vertex_behind(r, solid),
+        5 => file.extend(r.pick(&[&b"EN"[..], b"VX", b"F", b"\0\0\0", b"ENEN"])),
+        6 => file.splice(0..0, blank_record(r)).for_each(drop),
         _ => {}
     }
     file
@@ -66,16 +65,20 @@ fn blank_record(r: &mut Random) -> Vec<u8> {
     records(&blank)[..26].to_vec()
 }
 
-/// The reader: whole and damaged files, rooms that just suffice and rooms one short.
-pub fn read(r: &mut Random, _: u64) -> Request {
-    let solid = solid_for_file(r);
-    let bytes = some_file(r, &solid);
+/// The reader: whole and damaged files, rooms that just suffice and rooms one short. Of the
+/// files that are too large, every second one lacks its last byte.
+pub fn read(r: &mut Random, number: u64) -> Request {
+    let solid = solid_for_file(r, number);
+    let mut bytes = if number % 4 == 0 { records(&solid) } else { some_file(r, &solid) };
+    if number % 8 == 4 {
+        bytes.pop();
+    }
     let (coordinates, corners) = (solid.points.len(), solid.corners.len());
-    let (coordinates, corners) = match r.below(6) {
-        0 | 1 => (coordinates.saturating_sub(1), corners),
-        2 => (coordinates, corners.saturating_sub(1)),
-        3 => (coordinates, corners),
-        4 => (r.below(400), r.below(800)),
+    let (coordinates, corners) = match r.below(10) {
+        0..=2 => (coordinates.saturating_sub(1), corners),
+        3 => (coordinates, corners.saturating_sub(1)),
+        4 => (coordinates, corners),
+        5 => (r.below(400), r.below(800)),
         _ => (384, 768),
     };
     Request::Read { bytes, coordinates, corners }
@@ -93,14 +96,14 @@ pub fn cut(r: &mut Random, number: u64) -> Request {
 }
 
 /// The writer: solids with and without faults, rooms that just suffice and rooms one short.
-pub fn written(r: &mut Random, _: u64) -> Request {
+pub fn written(r: &mut Random, number: u64) -> Request {
     let (mut solid, _) = match r.below(12) {
         0 => largest(r),
         1..=5 => signed_zeros(r),
         _ => pick_pair(r),
     };
-    if r.once_in(3) {
-        put_faults(r, &mut solid);
+    if r.once_in(2) {
+        put_faults_in_turn(r, &mut solid, number);
     }
     let bytes = records(&solid).len();
     let room = match r.below(5) {
@@ -118,18 +121,18 @@ fn input_of(letter: u8, a: &[u8], b: &[u8], behind: &[u8]) -> Request {
 }
 
 /// The program: whole and damaged files, solids with faults, trailing bytes.
-pub fn program(r: &mut Random, _: u64) -> Request {
+pub fn program(r: &mut Random, number: u64) -> Request {
     let (mut a, mut b) = pick_pair(r);
     let (faults, damaged) = (r.below(4), r.below(5));
     if faults & 1 == 1 {
         put_faults(r, &mut a);
     }
     if faults & 2 == 2 {
-        put_faults(r, &mut b);
+        put_faults_in_turn(r, &mut b, number);
     }
     let file_a = if damaged == 0 { some_file(r, &a) } else { records(&a) };
     let file_b = if damaged > 2 { some_file(r, &b) } else { records(&b) };
-    let behind = if r.once_in(6) { r.pick(&[&b"\n"[..], b"EN", b"\0", b"VX"]) } else { b"" };
+    let behind = if r.once_in(5) { r.pick(&[&b"\n"[..], b"EN", b"\0", b"VX"]) } else { b"" };
     input_of(r.pick(b"UID"), &file_a, &file_b, behind)
 }
 

@@ -3,116 +3,144 @@ use mathlib.Core.Path.{_≡_, sym, _∙_}
 use mathlib.Core.Bool.{false}
 use native.Mathlib.Omega.{arith}
 use borrow.Author.Needs.{needs}
-use borrow.Author.Tests.{lt-ltb, le-ltb, eq-eqb, ne-eqb}
-use Rattle.list_words.specs.Lists.{any}
-use Rattle.solids.specs.Solids.{Solid, solid, vertices, half-edges, pairs}
-use Rattle.solids.specs.Admission.{uneven, too-many, differ}
-use Rattle.solids.proofs.Admitted.{even-back, few-back}
-use Rattle.solids.proofs.Orders.{first-1, then-2, then-3, then-4, then-5, then-6, else-accepted}
-use Rattle.solids.proofs.Closure.{all-fine, low, closure-there}
+use Rattle.solids.specs.declared.Verdict.the-variants.{Accepted}
+use Rattle.solids.specs.Solids.{Solid, solid, half-edges}
+use Rattle.solids.specs.Admission.{uneven, too-many, check-blanks, check-limit, check-corners, check-half-edges}
+use Rattle.solids.proofs.Orders.{first-lists, lists-fine, then-3, then-4, then-10-and-11, last-6}
+use Rattle.solids.proofs.Admitted.{even, few, all-fine}
+use Rattle.solids.proofs.Closure.{low, closure-each}
 use Rattle.admission.proofs.admit.Statement.{statement}
 use Rattle.admission.proofs.admit.Tie as tie
 
-abbrev of : tie.Start → Solid
-of s = solid (s .args .points .now) (s .args .corners .now)
+abbrev of : tie.After-check-lists → Solid
+of c = let a = c .before .before .before .args in solid (a .points .now) (a .corners .now)
 
 -- ---- what is known behind each check
-no-1 : (c : tie.Else2) → uneven (of (c .before .before .before .before)) ≡ false
-no-1 c = even-back (of (c .before .before .before .before)) (c .before .if1 .left) (c .if2 .left)
+abbrev of-1 : tie.After-enum-told → Solid
+of-1 c = of (c .before .before)
 
-no-2 : (c : tie.Else4) → too-many (of (c .before .before .before .before .before .before)) ≡ false
-no-2 c = few-back (of (c .before .before .before .before .before .before)) (c .before .if3 .left) (c .if4 .left)
+lists : (c : tie.After-enum-told) → (uneven (of-1 c) ≡ false) × (too-many (of-1 c) ≡ false)
+lists c = lists-fine (of-1 c) (sym (c .before .before .check-lists .ensures) ∙ c .enum-told .given .1)
+
+abbrev of-2 : tie.After-enum-told2 → Solid
+of-2 c = of-1 (c .before .before .before)
+
+blanks : (c : tie.After-enum-told2) → check-blanks (of-2 c) ≡ Accepted
+unfolding check-blanks
+blanks c = sym (c .before .before .check-points .ensures) ∙ c .enum-told2 .given .1
+
+abbrev of-3 : tie.After-enum-told3 → Solid
+of-3 c = of-2 (c .before .before .before)
+
+limits : (c : tie.After-enum-told3) → check-limit (of-3 c) ≡ Accepted
+unfolding check-limit
+limits c = sym (c .before .before .check-points2 .ensures) ∙ c .enum-told3 .given .1
+
+abbrev of-4 : tie.After-enum-told4 → Solid
+of-4 c = of-3 (c .before .before .before)
+
+facets-fine : (c : tie.After-enum-told4) → check-corners (of-4 c) ≡ Accepted
+facets-fine c = sym (c .before .before .check-corners .ensures) ∙ c .enum-told4 .given .1
+
+-- ---- in order
+check-lists-requires : tie.Need-check-lists-requires
+check-lists-requires c κs = search needs
+
+enum-known-of-lists : tie.Need-enum-known-of-lists
+enum-known-of-lists c = search needs
 
 returns : tie.Need-returns
-unfolding uneven
-returns c = sym (first-1 (of (c .before .before .before)) (rw (ne-eqb _ _ (c .if1 .taken))))
+returns c = let k = c .before .before .before in sym (first-lists (of k) _ (sym (k .check-lists .ensures) ∙ c .before .of-lists .given .1))
+
+enum-told : tie.Need-enum-told
+enum-told c = search needs
+
+check-points-requires : tie.Need-check-points-requires
+check-points-requires c κs = search needs
+
+enum-known-of-blanks : tie.Need-enum-known-of-blanks
+enum-known-of-blanks c = search needs
 
 returns-2 : tie.Need-returns-2
-unfolding uneven
-returns-2 c = sym (first-1 (of (c .before .before .before .before)) (rw (eq-eqb _ _ (c .before .if1 .left), ne-eqb _ _ (c .if2 .taken))))
+unfolding check-blanks
+returns-2 c =
+    let k = c .before .before .before in
+    let l = lists (k .before) in
+    sym (then-3 (of-1 (k .before)) (l .0) (l .1) _ (sym (k .check-points .ensures) ∙ c .before .of-blanks .given .1))
+
+enum-told-2 : tie.Need-enum-told-2
+enum-told-2 c = search needs
+
+check-points-requires-2 : tie.Need-check-points-requires-2
+check-points-requires-2 c κs = search needs
+
+enum-known-of-limit : tie.Need-enum-known-of-limit
+enum-known-of-limit c = search needs
 
 returns-3 : tie.Need-returns-3
-unfolding too-many
-returns-3 c = sym (then-2 (of (c .before .before .before .before .before)) (no-1 (c .before)) (rw (lt-ltb _ _ (c .if3 .taken))))
+unfolding check-limit
+returns-3 c =
+    let k = c .before .before .before in
+    let l = lists (k .before .before .before .before) in
+    sym (then-4 (of-2 (k .before)) (l .0) (l .1) (blanks (k .before)) _ (sym (k .check-points2 .ensures) ∙ c .before .of-limit .given .1))
+
+enum-told-3 : tie.Need-enum-told-3
+enum-told-3 c = search needs
+
+check-corners-requires : tie.Need-check-corners-requires
+check-corners-requires c κs = search needs
+
+enum-known-of-corners : tie.Need-enum-known-of-corners
+enum-known-of-corners c = search needs
 
 returns-4 : tie.Need-returns-4
-unfolding too-many
-returns-4 c = sym (then-2 (of (c .before .before .before .before .before .before)) (no-1 (c .before .before)) (rw (le-ltb _ _ (c .before .if3 .left), lt-ltb _ _ (c .if4 .taken))))
+returns-4 c =
+    let k = c .before .before .before in
+    let d = k .before .before .before .before in
+    let l = lists (d .before .before .before) in
+    sym (then-10-and-11 (of-3 (k .before)) (l .0) (l .1) (blanks d) (limits (k .before)) _ (sym (k .check-corners .ensures) ∙ c .before .of-corners .given .1))
 
-some-bad-requires : tie.Need-some-bad-requires
-some-bad-requires c κs = search needs
+enum-told-4 : tie.Need-enum-told-4
+enum-told-4 c = search needs
 
+check-closure-requires : tie.Need-check-closure-requires
+check-closure-requires c κs =
+    let s = of-4 c in
+    let l = lists (c .before .before .before .before .before .before .before .before .before) in
+    let e = even s (l .0) in
+    let f = few s (l .1) in
+    (low s (e .1) (f .0) (all-fine s (facets-fine c)), omega (arith, e, f))
+
+-- of check 6 the corners alone are looked at
 returns-5 : tie.Need-returns-5
+unfolding check-half-edges half-edges
 returns-5 c =
-    let d = c .before .before in
-    sym (then-3 (of (d .before .before .before .before .before .before)) (no-1 (d .before .before)) (no-2 d) (sym (c .before .some-bad .ensures) ∙ c .if5 .taken))
-
-some-bad-requires-2 : tie.Need-some-bad-requires-2
-some-bad-requires-2 c κs = search needs
-
-returns-6 : tie.Need-returns-6
-returns-6 c =
-    let e = c .before .before in
-    let d = e .before .before in
-    sym (then-4 (of (d .before .before .before .before .before .before)) (no-1 (d .before .before)) (no-2 d) (sym (e .before .some-bad .ensures) ∙ e .if5 .left)
-    (sym (c .before .some-bad2 .ensures) ∙ c .if6 .taken))
-
-some-faulty-requires : tie.Need-some-faulty-requires
-some-faulty-requires c κs = search needs
-
-returns-7 : tie.Need-returns-7
-returns-7 c =
-    let g = c .before .before in
-    let e = g .before .before in
-    let d = e .before .before in
-    sym (then-5 (of (d .before .before .before .before .before .before)) (no-1 (d .before .before)) (no-2 d) (sym (e .before .some-bad .ensures) ∙ e .if5 .left)
-    (sym (g .before .some-bad2 .ensures) ∙ g .if6 .left) (sym (c .before .some-faulty .ensures) ∙ c .if7 .taken))
-
-unmatched-requires : tie.Need-unmatched-requires
-unmatched-requires c κs =
-    let d = c .before .before .before .before .before .before in
-    let s = of (d .before .before .before .before .before .before) in
-    (low s (d .before .before .if2 .left) (omega arith) (all-fine s (sym (c .before .some-faulty .ensures) ∙ c .if7 .left)), omega arith)
-
--- check 6, of proper facets
-sixth : (c : tie.After-unmatched) → let s = of (c .before .before .before .before .before .before .before .before .before .before .before .before .before) in any (differ (half-edges s)) (pairs (vertices s)) ≡ c .unmatched .result
-unfolding half-edges
-sixth c =
-    let s = of (c .before .before .before .before .before .before .before .before .before .before .before .before .before) in
-    closure-there s (all-fine s (sym (c .before .before .some-faulty .ensures) ∙ c .before .if7 .left)) ∙ sym (c .unmatched .ensures)
-
-returns-8 : tie.Need-returns-8
-returns-8 c =
-    let k = c .before .before in
-    let g = k .before .before in
-    let e = g .before .before in
-    let d = e .before .before in
-    sym (then-6 (of (d .before .before .before .before .before .before)) (no-1 (d .before .before)) (no-2 d) (sym (e .before .some-bad .ensures) ∙ e .if5 .left)
-    (sym (g .before .some-bad2 .ensures) ∙ g .if6 .left) (sym (k .before .some-faulty .ensures) ∙ k .if7 .left) (sixth (c .before) ∙ c .if8 .taken))
-
-returns-9 : tie.Need-returns-9
-returns-9 c =
-    let k = c .before .before in
-    let g = k .before .before in
-    let e = g .before .before in
-    let d = e .before .before in
-    sym (else-accepted (of (d .before .before .before .before .before .before)) (no-1 (d .before .before)) (no-2 d) (sym (e .before .some-bad .ensures) ∙ e .if5 .left)
-    (sym (g .before .some-bad2 .ensures) ∙ g .if6 .left) (sym (k .before .some-faulty .ensures) ∙ k .if7 .left) (sixth (c .before) ∙ c .if8 .left))
+    let k = c .before in
+    let g = k .before .before .before in
+    let d = g .before .before .before in
+    let l = lists (d .before .before .before) in
+    let s = of-4 k in
+    sym (last-6 s (l .0) (l .1) (blanks d) (limits g) (facets-fine k) _ (closure-each s (all-fine s (facets-fine k)) ∙ sym (c .check-closure .ensures)))
 
 pub admit-spec : {M : Type 1} → statement M
 admit-spec =
     tie.close
     (tie.spec
+    check-lists-requires
+    enum-known-of-lists
     returns
+    enum-told
+    check-points-requires
+    enum-known-of-blanks
     returns-2
+    enum-told-2
+    check-points-requires-2
+    enum-known-of-limit
     returns-3
+    enum-told-3
+    check-corners-requires
+    enum-known-of-corners
     returns-4
-    some-bad-requires
-    returns-5
-    some-bad-requires-2
-    returns-6
-    some-faulty-requires
-    returns-7
-    unmatched-requires
-    returns-8
-    returns-9)
+    enum-told-4
+    check-closure-requires
+    returns-5)

@@ -1,4 +1,4 @@
--- `ozoravesh_admit` meets its contract: the number of the verdict.
+-- `ozoravesh_admit` meets its contract: the verdict's answer.
 use mathlib.Core.Path.{ap, _∙_}
 use Rattle.solids.specs.Refusals.{answer}
 use borrow.Author.Needs.{needs}
@@ -12,7 +12,7 @@ answer-requires : tie.Need-answer-requires
 answer-requires c κs = search needs
 
 returns : tie.Need-returns
-returns c = ap (λ a. a .number) (c .answer .ensures ∙ ap answer (c .before .admit .ensures))
+returns c = c .answer .ensures ∙ ap answer (c .before .admit .ensures)
 
 pub ozoravesh-admit-spec : {M : Type 1} → statement M
 ozoravesh-admit-spec = tie.close (tie.spec admit-requires answer-requires returns)

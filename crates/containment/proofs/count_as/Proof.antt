@@ -8,7 +8,8 @@ use Rattle.solids.specs.Solids.{Solid, solid}
 use Rattle.solids.specs.Admission.{admission, point-admission}
 use Rattle.solids.proofs.Admitted.{passed}
 use Rattle.solids.proofs.Closure.{named}
-use Rattle.solids.proofs.Orders.{all-accepted, count-as-is}
+use Rattle.solids.proofs.Checks.{all-accepted}
+use Rattle.solids.proofs.Orders.{count-as-is}
 use borrow.Author.Needs.{needs}
 use Rattle.containment.proofs.count_as.Statement.{statement}
 use Rattle.containment.proofs.count_as.Tie as tie

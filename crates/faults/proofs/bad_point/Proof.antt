@@ -1,7 +1,8 @@
 -- `bad_point` meets its contract: the first coordinate that is bad decides.
-use mathlib.Core.Path.{sym}
+use mathlib.Core.Path.{_≡_, sym}
 use mathlib.Core.Bool.{or-false}
 use Rattle.list_words.specs.Lists.{any}
+use Rattle.solids.specs.Words.{bad}
 use borrow.Author.Needs.{needs}
 use Rattle.faults.proofs.bad_point.Statement.{statement}
 use Rattle.faults.proofs.bad_point.Tie as tie
@@ -26,7 +27,9 @@ returns-2 c = rw (← c .before .before .before .bad .ensures, c .before .before
 returns-3 : tie.Need-returns-3
 unfolding any
 returns-3 c =
-    rw (← c .before .before .before .before .bad .ensures, c .before .before .before .if1 .left, ← c .before .before .bad2 .ensures, c .before .if2 .left, ← c .bad3 .ensures) (sym (or-false (c .bad3 .result)))
+    let s = c .before .before .before .before .before in
+    let last : c .bad3 .result ≡ bad (s .args .blanks) (s .args .v .z) = c .bad3 .ensures in
+    rw (← c .before .before .before .before .bad .ensures, c .before .before .before .if1 .left, ← c .before .before .bad2 .ensures, c .before .if2 .left, ← last) (sym (or-false (c .bad3 .result)))
 
 pub bad-point-spec : {M : Type 1} → statement M
 bad-point-spec =

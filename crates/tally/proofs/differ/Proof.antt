@@ -4,6 +4,7 @@ use mathlib.Core.Bool.{not}
 use lib.Dec.{eqb}
 use lib.ListN.{getD}
 use mathlib.Core.List.{[]}
+use native.Mathlib.Omega.{arith}
 use borrow.Author.Tests.{eq-eqb, ne-eqb}
 use Rattle.solids.specs.Solids.{solid, half-edges}
 use Rattle.solids.specs.Admission as Ad
@@ -40,10 +41,22 @@ numbers s =
     rw (t .at (s .args .p, s .args .q) (s .pre .0) (s .pre .1), t .at (s .args .q, s .args .p) (s .pre .1) (s .pre .0))
 
 returns : tie.Need-returns
-returns c = let s = c .before .before .before .before .before .before in rw (numbers s, ← c .before .before .before .before .place .ensures .0, ← c .before .before .before .place2 .ensures .0, eq-eqb _ _ (c .if1 .taken))
+returns c =
+    let s = c .before .before .before .before .before .before in
+    let there = c .before .before .before .before .place .result in
+    let back = c .before .before .before .place2 .result in
+    let at-there : there ≡ place (s .args .p, s .args .q) = c .before .before .before .before .place .ensures .0 in
+    let at-back : back ≡ place (s .args .q, s .args .p) = c .before .before .before .place2 .ensures .0 in
+    rw (numbers s, ← at-there, ← at-back, eq-eqb (getD (s .args .table .now) there 0) (getD (s .args .table .now) back 0) (omega (arith, c .if1 .taken)))
 
 returns-2 : tie.Need-returns-2
-returns-2 c = let s = c .before .before .before .before .before .before in rw (numbers s, ← c .before .before .before .before .place .ensures .0, ← c .before .before .before .place2 .ensures .0, ne-eqb _ _ (c .if1 .left))
+returns-2 c =
+    let s = c .before .before .before .before .before .before in
+    let there = c .before .before .before .before .place .result in
+    let back = c .before .before .before .place2 .result in
+    let at-there : there ≡ place (s .args .p, s .args .q) = c .before .before .before .before .place .ensures .0 in
+    let at-back : back ≡ place (s .args .q, s .args .p) = c .before .before .before .place2 .ensures .0 in
+    rw (numbers s, ← at-there, ← at-back, ne-eqb (getD (s .args .table .now) there 0) (getD (s .args .table .now) back 0) (c .if1 .left))
 
 pub differ-spec : {M : Type 1} → statement M
 differ-spec =
