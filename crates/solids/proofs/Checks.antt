@@ -61,6 +61,11 @@ late (Refused b ∷ vs) ws e = absurd (refused-accepted b e)
 
 -- ---- a check of each number below n
 module _ (check : ℕ → Verdict) where
+  -- a refusal below n stays whatever n says
+  longer : (n : ℕ) (a : Answer) → at-each n check ≡ Refused a → at-each (suc n) check ≡ Refused a
+  unfolding upTo
+  longer n a e = ap in-order (map-append check (upTo n) (n ∷ [])) ∙ early (map check (upTo n)) (check n ∷ []) a e
+
   -- where those below n accept, n itself decides
   last : (n : ℕ) → at-each n check ≡ Accepted → at-each (suc n) check ≡ check n
   unfolding upTo in-order
@@ -69,10 +74,6 @@ module _ (check : ℕ → Verdict) where
       alone : (v : Verdict) → in-order (v ∷ []) ≡ v
       alone Accepted = refl
       alone (Refused a) = refl
-
-  longer : (n : ℕ) (a : Answer) → at-each n check ≡ Refused a → at-each (suc n) check ≡ Refused a
-  unfolding upTo
-  longer n a e = ap in-order (map-append check (upTo n) (n ∷ [])) ∙ early (map check (upTo n)) (check n ∷ []) a e
 
   -- the two steps of a loop
   pub each-next : (n : ℕ) → at-each n check ≡ Accepted → check n ≡ Accepted → at-each (n + 1) check ≡ Accepted
