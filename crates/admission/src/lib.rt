@@ -12,7 +12,7 @@ use solids::{Answer, Verdict};
 // Check 6 on facets whose corners are all there.
 fn check_closure(corners: &[u32]) -> Verdict
     requires { Sw.Low corners.now × (length corners.now ≤ 768) }
-    ensures { result ≡ at_each (length corners.now / 3) (Ad.check-half-edges (So.solid [] corners.now)) }
+    ensures { result ≡ at_each (length corners.now / 3) (Ad.check_half_edges (So.solid [] corners.now)) }
 {
     let mut counts = [0u16; 16384];
     tally::tally(&mut counts, corners);
@@ -21,7 +21,7 @@ fn check_closure(corners: &[u32]) -> Verdict
 
 // Checks 1 and 2, which look at lengths alone.
 fn check_lists(points: &[f64], corners: &[u32]) -> Verdict
-    ensures { result ≡ in_order (Ad.check-lengths (So.lent points.entry corners.entry) ∷ Ad.check-sizes (So.lent points.entry corners.entry) ∷ []) }
+    ensures { result ≡ in_order (Ad.check_lengths (So.lent points.entry corners.entry) ∷ Ad.check_sizes (So.lent points.entry corners.entry) ∷ []) }
 {
     if points.len() % 3 != 0 {
         return Verdict::Refused(Answer::UNEVEN);

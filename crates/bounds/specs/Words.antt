@@ -11,7 +11,7 @@ use Rattle.crossings.specs.declared.Edge.{Edge}
 use Rattle.crossings.specs.declared.Facet.{Facet}
 use Rattle.solids.specs.Solids.{Solid, solid, vertices, facets, edges, vertex, edge, facet}
 use Rattle.solids.specs.Admission.{limit}
-use Rattle.edges.specs.Words.{edge-numbered}
+use Rattle.edges.specs.Words.{edge_numbered}
 use Rattle.bounds.specs.declared.Bounds.{Bounds}
 use Rattle.bounds.specs.declared.Far.{Far}
 use Rattle.bounds.specs.declared.Far.TheVariants.{Apart, Below, Above}
@@ -43,23 +43,23 @@ dot v = record { low = v; high = v }
 unfoldable pub joined : Bounds → Bounds → Bounds
 joined a b = record { low = lowest a.low b.low; high = highest a.high b.high }
 
-unfoldable pub round-edge : Edge → Bounds
-round-edge e = joined (dot e.start) (dot e.end)
+unfoldable pub round_edge : Edge → Bounds
+round_edge e = joined (dot e.start) (dot e.end)
 
-unfoldable pub round-facet : Facet → Bounds
-round-facet f = joined (joined (dot f.p) (dot f.q)) (dot f.r)
+unfoldable pub round_facet : Facet → Bounds
+round_facet f = joined (joined (dot f.p) (dot f.q)) (dot f.r)
 
 -- the one ends before the other begins, by one axis
-unfoldable pub apart-on : Axis → Bounds → Bounds → Bool
-apart-on k a b = lt (coordinate k a.high) (coordinate k b.low) || lt (coordinate k b.high) (coordinate k a.low)
+unfoldable pub apart_on : Axis → Bounds → Bounds → Bool
+apart_on k a b = lt (coordinate k a.high) (coordinate k b.low) || lt (coordinate k b.high) (coordinate k a.low)
 
 -- by x or y
 unfoldable pub beside : Bounds → Bounds → Bool
-beside a b = apart-on X a b || apart-on Y a b
+beside a b = apart_on X a b || apart_on Y a b
 
 -- by x, y or z
 unfoldable pub apart : Bounds → Bounds → Bool
-apart a b = beside a b || apart-on Z a b
+apart a b = beside a b || apart_on Z a b
 
 -- b is left out for what lies in a: by any axis, or by x, y and one way of z
 unfoldable pub far : Far → Bounds → Bounds → Bool
@@ -74,8 +74,8 @@ many Edges s = length (edges s)
 many Facets s = facets s
 
 unfoldable pub box_of : Thing → Solid → ℕ → Bounds
-box_of Edges s i = round-edge (edge s (edge-numbered s i))
-box_of Facets s i = round-facet (facet s i)
+box_of Edges s i = round_edge (edge s (edge_numbered s i))
+box_of Facets s i = round_facet (facet s i)
 
 -- a box that ends before it begins, so that what is joined to it stands
 abbrev pub nowhere : Bounds
@@ -97,8 +97,8 @@ whole s = hull s.points 0 (vertices s)
 abbrev pub six : Bounds → List Float
 six b = b.low.x ∷ b.low.y ∷ b.low.z ∷ b.high.x ∷ b.high.y ∷ b.high.z ∷ []
 
-abbrev pub box-at : List Float → ℕ → Bounds
-box-at l i =
+abbrev pub box_at : List Float → ℕ → Bounds
+box_at l i =
     record {
       low = record { x = get_or l (6 * i) nan; y = get_or l (6 * i + 1) nan; z = get_or l (6 * i + 2) nan };
       high = record { x = get_or l (6 * i + 3) nan; y = get_or l (6 * i + 4) nan; z = get_or l (6 * i + 5) nan };
@@ -107,7 +107,7 @@ box-at l i =
 -- the box of each edge or facet, at its number
 pub record Boxed (boxes : List Float) (t : Thing) (s : Solid) : Type 0 where
   pub room : 6 * many t s ≤ length boxes
-  pub own : (c : ℕ) → c < many t s → box-at boxes c ≡ box_of t s c
+  pub own : (c : ℕ) → c < many t s → box_at boxes c ≡ box_of t s c
 
 -- ---- columns: numbers of edges or facets
 pub record Among (columns : List ℕ) (t : Thing) (s : Solid) : Type 0 where
@@ -115,11 +115,11 @@ pub record Among (columns : List ℕ) (t : Thing) (s : Solid) : Type 0 where
   pub there : (k : ℕ) → k < length columns → get_or columns k 0 < many t s
 
 -- those whose boxes are not far from b
-unfoldable pub near-to : Far → Bounds → (ℕ → Bounds) → List ℕ → List ℕ
-near-to w b box columns = keep (λ c. not (far w b (box c))) columns
+unfoldable pub near_to : Far → Bounds → (ℕ → Bounds) → List ℕ → List ℕ
+near_to w b box columns = keep (λ c. not (far w b (box c))) columns
 
 -- they are the first k of a list
 pub record Narrowed (few : List ℕ) (w : Far) (b : Bounds) (box : ℕ → Bounds) (columns : List ℕ) (k : ℕ) : Type 0 where
   pub fits : k ≤ length columns
   pub room : k ≤ length few
-  pub front : take k few ≡ near-to w b box columns
+  pub front : take k few ≡ near_to w b box columns

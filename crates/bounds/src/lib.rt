@@ -81,13 +81,13 @@ pub fn joined(a: Bounds, b: Bounds) -> Bounds
 }
 
 pub fn round_edge(e: Edge) -> Bounds
-    ensures { result ≡ Bo.round-edge e }
+    ensures { result ≡ Bo.round_edge e }
 {
     joined(dot(e.start), dot(e.end))
 }
 
 pub fn round_facet(f: Facet) -> Bounds
-    ensures { result ≡ Bo.round-facet f }
+    ensures { result ≡ Bo.round_facet f }
 {
     joined(joined(dot(f.p), dot(f.q)), dot(f.r))
 }

@@ -13,7 +13,7 @@ use points::Point;
 // Is the box beside number j of the list? By x first.
 pub fn beside_at(b: Bounds, boxes: &[f64], j: usize) -> bool
     requires { 6 * j + 6 ≤ length boxes.now }
-    ensures { result ≡ Bo.beside b (Bo.box-at boxes.now j) }
+    ensures { result ≡ Bo.beside b (Bo.box_at boxes.now j) }
 {
     if bounds::clear(b.low.x, b.high.x, boxes[6 * j], boxes[6 * j + 3]) {
         true
@@ -25,7 +25,7 @@ pub fn beside_at(b: Bounds, boxes: &[f64], j: usize) -> bool
 // Is the box far from number j of the list?
 pub fn far_at(far: Far, b: Bounds, boxes: &[f64], j: usize) -> bool
     requires { 6 * j + 6 ≤ length boxes.now }
-    ensures { result ≡ Bo.far «far» b (Bo.box-at boxes.now j) }
+    ensures { result ≡ Bo.far «far» b (Bo.box_at boxes.now j) }
 {
     if beside_at(b, boxes, j) {
         return true;
@@ -100,7 +100,7 @@ pub fn gather(
 pub fn narrow(far: Far, b: Bounds, boxes: &[f64], columns: &[u32], few: &mut [u32]) -> usize
     requires columns_in_bounds { (length columns.now ≤ length few.old) × (length columns.now ≤ 384) }
     requires there { (i : ℕ) → i < length columns.now → 6 * get_or columns.now i 0 + 6 ≤ length boxes.now }
-    ensures narrowed { Bo.Narrowed few.new «far» b (Bo.box-at boxes.now) columns.now result }
+    ensures narrowed { Bo.Narrowed few.new «far» b (Bo.box_at boxes.now) columns.now result }
     ensures same { length few.new ≡ length few.old }
 {
     let mut k = 0;

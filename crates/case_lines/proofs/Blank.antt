@@ -4,8 +4,8 @@ use mathlib.Core.Bool.{true, false, not}
 use lib.Dec.{T}
 use lib.Ieee.{Float, nan, inf, fin, ne, is_nan}
 
-pub no-blank : (x : Float) → ne x x ≡ false → T (not (is_nan x))
+pub no_blank : (x : Float) → ne x x ≡ false → T (not (is_nan x))
 unfolding ne is_nan
-no-blank nan h = subst T h tt
-no-blank (inf s) h = tt
-no-blank (fin s m e) h = tt
+no_blank nan h = subst T h tt
+no_blank (inf s) h = tt
+no_blank (fin s m e) h = tt

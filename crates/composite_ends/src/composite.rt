@@ -17,8 +17,8 @@ pub fn corner(
     k: usize,
     flip: bool,
 ) -> End
-    requires { K.Vertices z inc.now num.now × T.Halves halves.now z × (3 * h + k < length halves.now) × (K.corner-at halves.now z h k < z.va + z.vb) }
-    ensures { result ≡ T.flip flip (K.vertex inc.now num.now (K.corner-at halves.now z h k)) }
+    requires { K.Vertices z inc.now num.now × T.Halves halves.now z × (3 * h + k < length halves.now) × (K.corner_at halves.now z h k < z.va + z.vb) }
+    ensures { result ≡ T.flip flip (K.vertex inc.now num.now (K.corner_at halves.now z h k)) }
 {
     let v = places::number_at(halves, 3 * h + k);
     if h < 3 * z.fa {
@@ -37,8 +37,8 @@ pub fn line_end(
     i: usize,
     flip: bool,
 ) -> End
-    requires { T.Halves halves.now plan.sizes × K.Crossings plan.sizes (K.rows first.now crossed.now plan.base) × (h < 3 * (plan.sizes.fa + plan.sizes.fb)) × (i < K.line-many plan.sizes h) }
-    ensures { result ≡ T.flip flip (K.line-end (K.rows first.now crossed.now plan.base) halves.now plan.sizes h i) }
+    requires { T.Halves halves.now plan.sizes × K.Crossings plan.sizes (K.rows first.now crossed.now plan.base) × (h < 3 * (plan.sizes.fa + plan.sizes.fb)) × (i < K.line_many plan.sizes h) }
+    ensures { result ≡ T.flip flip (K.line_end (K.rows first.now crossed.now plan.base) halves.now plan.sizes h i) }
 {
     let e = places::edge_of(halves, h);
     if h < 3 * plan.sizes.fa {
@@ -64,7 +64,7 @@ pub fn a_end(
     turn: bool,
 ) -> End
     requires { T.Halves halves.now plan.sizes × K.Crossings plan.sizes (K.rows first.now crossed.now plan.base) × (h < 3 * plan.sizes.fa) }
-    ensures { result ≡ T.flip turn (K.a-end (K.rows first.now crossed.now plan.base) halves.now g h) }
+    ensures { result ≡ T.flip turn (K.a_end (K.rows first.now crossed.now plan.base) halves.now g h) }
 {
     let e = places::edge_of(halves, h);
     let t = places::against(halves, h);

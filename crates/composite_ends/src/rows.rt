@@ -22,7 +22,7 @@ pub fn line_row(halves: &[u32], z: Sizes, h: usize) -> usize
 // How many facets the other solid has, of half-edge h.
 pub fn line_many(z: Sizes, h: usize) -> usize
     requires { La.Sized z }
-    ensures { result ≡ K.line-many z h }
+    ensures { result ≡ K.line_many z h }
 {
     if h < 3 * z.fa { z.fb } else { z.fa }
 }

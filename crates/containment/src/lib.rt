@@ -12,7 +12,7 @@ use points::Point;
 use solids::{Answer, Counted, Verdict};
 
 pub fn facet_s(as_b: bool, v: Point, f: Facet) -> i32
-    ensures value { result ≡ Sw.facet-S as_b v f }
+    ensures value { result ≡ Sw.facet_S as_b v f }
     ensures small { nat_abs result ≤ 1 }
 {
     if as_b {
@@ -25,7 +25,7 @@ pub fn facet_s(as_b: bool, v: Point, f: Facet) -> i32
 // "sum S(vA,f)" over B's facets, or "sum S(f,vB)" over A's.
 fn sum_s(as_b: bool, v: Point, points: &[f64], corners: &[u32]) -> i32
     requires { Sw.Named points.now corners.now × (length corners.now ≤ 768) }
-    ensures value { result ≡ sum_of (λ f. Sw.facet-S as_b v (So.facet (So.lent points.entry corners.entry) f)) (up_to (length corners.now / 3)) }
+    ensures value { result ≡ sum_of (λ f. Sw.facet_S as_b v (So.facet (So.lent points.entry corners.entry) f)) (up_to (length corners.now / 3)) }
     ensures small { nat_abs result ≤ 256 }
 {
     let mut sum: i32 = 0;
@@ -40,7 +40,7 @@ fn sum_s(as_b: bool, v: Point, points: &[f64], corners: &[u32]) -> i32
 
 // The point's verdict, then the solid's.
 fn both(v: Point, points: &[f64], corners: &[u32]) -> Verdict
-    ensures { result ≡ Re.in_order (Ad.point-admission v ∷ Ad.admission (So.lent points.entry corners.entry) ∷ []) }
+    ensures { result ≡ Re.in_order (Ad.point_admission v ∷ Ad.admission (So.lent points.entry corners.entry) ∷ []) }
 {
     match admission::admit_point(v) {
         Verdict::Refused(n) => Verdict::Refused(n),
@@ -59,7 +59,7 @@ pub fn contained(as_b: bool, v: Point, points: &[f64], corners: &[u32]) -> i32
 }
 
 fn count_as(as_b: bool, v: Point, points: &[f64], corners: &[u32]) -> Counted
-    ensures { result ≡ Sw.count-as as_b v (So.lent points.entry corners.entry) }
+    ensures { result ≡ Sw.count_as as_b v (So.lent points.entry corners.entry) }
 {
     match both(v, points, corners) {
         Verdict::Refused(answer) => Counted { answer, count: 0 },

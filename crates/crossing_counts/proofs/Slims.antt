@@ -7,13 +7,13 @@ use lib.Ieee.{le}
 use Prim.Native.Nat.{zero, suc, ◌+◌, ◌≤◌}
 use native.Mathlib.Nat.{le_refl}
 use native.Mathlib.Omega.{arith}
-use Rattle.list_words.proofs.Integers.{bnd-add}
+use Rattle.list_words.proofs.Integers.{bnd_add}
 use Rattle.list_words.specs.Lists.{sum_of, nonzero}
 use Rattle.list_words.proofs.Sums.{All}
 use Rattle.points.specs.declared.PointPair.{PointPair}
 use Rattle.points.specs.declared.Axis.{Axis}
 use Rattle.points.specs.declared.Axis.TheVariants.{X, Y, Z}
-use Rattle.points.specs.Points.{at_least, gap, placed, pair-at, point_at}
+use Rattle.points.specs.Points.{at_least, gap, placed, pair_at, point_at}
 use Rattle.crossings.specs.declared.Crossing.{Crossing}
 use Rattle.crossings.specs.declared.Crossing.TheVariants.{Miss, Cross}
 use Rattle.crossings.specs.Crossings.{points, S, against, lies, first, crossing, paired}
@@ -26,63 +26,63 @@ abbrev pub Proper : Crossing → Type 0
 Proper Miss = Unit {0}
 Proper (Cross n w) = nonzero n ≡ true
 
-pub proper-paired : (k : Axis) (cs : List Crossing) → Proper (paired k cs)
+pub proper_paired : (k : Axis) (cs : List Crossing) → Proper (paired k cs)
 unfolding paired crossing
-proper-paired k cs = go (sum_of (S k) cs)
+proper_paired k cs = go (sum_of (S k) cs)
   where
     go : (n : ℤ) → Proper (cond (nonzero n) (Cross n (placed k (points (first k true cs)) (points (first k false cs)))) Miss)
     go (pos zero) = tt
     go (pos (suc n)) = refl
     go (negsuc n) = refl
 
-nonzero-neg : (n : ℤ) → nonzero (neg_ℤ n) ≡ nonzero n
-nonzero-neg (pos zero) = refl
-nonzero-neg (pos (suc n)) = refl
-nonzero-neg (negsuc n) = refl
+nonzero_neg : (n : ℤ) → nonzero (neg_ℤ n) ≡ nonzero n
+nonzero_neg (pos zero) = refl
+nonzero_neg (pos (suc n)) = refl
+nonzero_neg (negsuc n) = refl
 
-pub proper-against : (c : Crossing) → Proper c → Proper (against c)
-proper-against Miss h = tt
-proper-against (Cross n w) h = nonzero-neg n ∙ h
+pub proper_against : (c : Crossing) → Proper c → Proper (against c)
+proper_against Miss h = tt
+proper_against (Cross n w) h = nonzero_neg n ∙ h
 
-pub slim-against : (c : Crossing) → slim (against c) ≡ turned (slim c)
-slim-against Miss = refl
-slim-against (Cross n w) = refl
+pub slim_against : (c : Crossing) → slim (against c) ≡ turned (slim c)
+slim_against Miss = refl
+slim_against (Cross n w) = refl
 
 -- ---- the sum of S, the first plus and the first minus
-abbrev pub of-all : List Crossing → Sum
-of-all cs = record { n = sum_of (S Y) cs; plus = slim (first Y true cs); minus = slim (first Y false cs) }
+abbrev pub of_all : List Crossing → Sum
+of_all cs = record { n = sum_of (S Y) cs; plus = slim (first Y true cs); minus = slim (first Y false cs) }
 
-with-one : (c : Crossing) (cs : List Crossing) → Proper c → with (slim c) (of-all cs) ≡ of-all (c ∷ cs)
+with_one : (c : Crossing) (cs : List Crossing) → Proper c → with (slim c) (of_all cs) ≡ of_all (c ∷ cs)
 unfolding with sum_of S first lies at_least
-with-one Miss cs h = ap (λ z. record { n = z; plus = slim (first Y true cs); minus = slim (first Y false cs) }) (sym (+ℤ_idl (sum_of (S Y) cs)))
-with-one (Cross n w) cs h = rw h (go (le w.a.y w.b.y))
+with_one Miss cs h = ap (λ z. record { n = z; plus = slim (first Y true cs); minus = slim (first Y false cs) }) (sym (+ℤ_idl (sum_of (S Y) cs)))
+with_one (Cross n w) cs h = rw h (go (le w.a.y w.b.y))
   where
     go : (b : Bool) → ◌≡◌ {A = Sum} (cond b (record { n = n +ℤ sum_of (S Y) cs; plus = slim (Cross n w); minus = slim (first Y false cs) }) (record { n = sum_of (S Y) cs; plus = slim (first Y true cs); minus = slim (Cross n w) }))
         (record { n = cond b n (pos 0) +ℤ sum_of (S Y) cs; plus = slim (cond b (Cross n w) (first Y true cs)); minus = slim (cond (not b) (Cross n w) (first Y false cs)) })
     go true = refl
     go false = ap (λ z. record { n = z; plus = slim (first Y true cs); minus = slim (Cross n w) }) (sym (+ℤ_idl (sum_of (S Y) cs)))
 
-pub gathered-is : (cs : List Crossing) → All Proper cs → gathered (map slim cs) ≡ of-all cs
+pub gathered_is : (cs : List Crossing) → All Proper cs → gathered (map slim cs) ≡ of_all cs
 unfolding gathered sum_of first
-gathered-is [] h = refl
-gathered-is (c ∷ cs) h = ap (with (slim c)) (gathered-is cs h.1) ∙ with-one c cs h.0
+gathered_is [] h = refl
+gathered_is (c ∷ cs) h = ap (with (slim c)) (gathered_is cs h.1) ∙ with_one c cs h.0
 
-shade-of-all : (cs : List Crossing) → shade (of-all cs) ≡ S Z (paired Y cs)
-unfolding shade paired crossing S at_least placed pair-at point_at gap
-shade-of-all cs = go (nonzero (sum_of (S Y) cs))
+shade_of_all : (cs : List Crossing) → shade (of_all cs) ≡ S Z (paired Y cs)
+unfolding shade paired crossing S at_least placed pair_at point_at gap
+shade_of_all cs = go (nonzero (sum_of (S Y) cs))
   where
     go : (b : Bool) → cond b (cond (at_least Z (placed Y (points (first Y true cs)) (points (first Y false cs)))) (sum_of (S Y) cs) (pos 0)) (pos 0)
         ≡ S Z (cond b (Cross (sum_of (S Y) cs) (placed Y (points (first Y true cs)) (points (first Y false cs)))) Miss)
     go true = refl
     go false = refl
 
-pub shade-is : (cs : List Crossing) → All Proper cs → shade (gathered (map slim cs)) ≡ S Z (paired Y cs)
-shade-is cs h = ap shade (gathered-is cs h) ∙ shade-of-all cs
+pub shade_is : (cs : List Crossing) → All Proper cs → shade (gathered (map slim cs)) ≡ S Z (paired Y cs)
+shade_is cs h = ap shade (gathered_is cs h) ∙ shade_of_all cs
 
 -- ---- the sum alone: where it is 0, S is 0 whatever is plus and minus
-with-count : (c : Slim) (g : Sum) → (with c g).n ≡ counted c +ℤ g.n
+with_count : (c : Slim) (g : Sum) → (with c g).n ≡ counted c +ℤ g.n
 unfolding with
-with-count c g = go c.n (le c.ay c.by)
+with_count c g = go c.n (le c.ay c.by)
   where
     go : (n : ℤ) (b : Bool) → (cond {A = Sum} (nonzero n) (cond b (record { n = n +ℤ g.n; plus = c; minus = g.minus }) (record { n = g.n; plus = g.plus; minus = c })) g).n ≡ cond b n (pos 0) +ℤ g.n
     go (pos zero) true = sym (+ℤ_idl g.n)
@@ -92,17 +92,17 @@ with-count c g = go c.n (le c.ay c.by)
     go (negsuc n) true = refl
     go (negsuc n) false = sym (+ℤ_idl g.n)
 
-gathered-count : (cs : List Slim) → (gathered cs).n ≡ sum_of counted cs
+gathered_count : (cs : List Slim) → (gathered cs).n ≡ sum_of counted cs
 unfolding gathered sum_of
-gathered-count [] = refl
-gathered-count (c ∷ cs) = with-count c (gathered cs) ∙ ap (λ z. counted c +ℤ z) (gathered-count cs)
+gathered_count [] = refl
+gathered_count (c ∷ cs) = with_count c (gathered cs) ∙ ap (λ z. counted c +ℤ z) (gathered_count cs)
 
-pub shade-none : (cs : List Slim) → nonzero (sum_of counted cs) ≡ false → shade (gathered cs) ≡ pos 0
+pub shade_none : (cs : List Slim) → nonzero (sum_of counted cs) ≡ false → shade (gathered cs) ≡ pos 0
 unfolding shade
-shade-none cs h = rw (gathered-count cs, h)
+shade_none cs h = rw (gathered_count cs, h)
 
-pub counted-turned : (c : Slim) → counted (turned c) ≡ neg_ℤ (counted c)
-counted-turned c = go (le c.ay c.by)
+pub counted_turned : (c : Slim) → counted (turned c) ≡ neg_ℤ (counted c)
+counted_turned c = go (le c.ay c.by)
   where
     go : (b : Bool) → cond b (neg_ℤ c.n) (pos 0) ≡ neg_ℤ (cond b c.n (pos 0))
     go true = refl
@@ -115,25 +115,25 @@ module _ (c : Slim) (g : Sum) where
   with_size h = go (nonzero c.n) (le c.ay c.by)
     where
       go : (a b : Bool) → nat_abs (cond {A = Sum} a (cond b (record { n = c.n +ℤ g.n; plus = c; minus = g.minus }) (record { n = g.n; plus = g.plus; minus = c })) g).n ≤ nat_abs g.n + 1
-      go true true = omega (arith, bnd-add (nat_abs c.n) (nat_abs g.n) c.n g.n (le_refl _) (le_refl _))
+      go true true = omega (arith, bnd_add (nat_abs c.n) (nat_abs g.n) c.n g.n (le_refl _) (le_refl _))
       go true false = omega arith
       go false b = omega arith
 
-  pub with-sized : {r : Sum} → nat_abs c.n ≤ 1 → r ≡ with c g → (r ≡ with c g) × (nat_abs r.n ≤ nat_abs g.n + 1)
-  with-sized h e = (e, subst (λ (x : Sum). nat_abs x.n ≤ nat_abs g.n + 1) (sym e) (with_size h))
+  pub with_sized : {r : Sum} → nat_abs c.n ≤ 1 → r ≡ with c g → (r ≡ with c g) × (nat_abs r.n ≤ nat_abs g.n + 1)
+  with_sized h e = (e, subst (λ (x : Sum). nat_abs x.n ≤ nat_abs g.n + 1) (sym e) (with_size h))
 
 module _ (g : Sum) where
-  shade-size : nat_abs (shade g) ≤ nat_abs g.n
+  shade_size : nat_abs (shade g) ≤ nat_abs g.n
   unfolding shade
-  shade-size = go (nonzero g.n) (reaches g)
+  shade_size = go (nonzero g.n) (reaches g)
     where
       go : (a b : Bool) → nat_abs (cond a (cond b g.n (pos 0)) (pos 0)) ≤ nat_abs g.n
       go true true = omega arith
       go true false = omega arith
       go false b = omega arith
 
-  pub shade-sized : {r : ℤ} → r ≡ shade g → (r ≡ shade g) × (nat_abs r ≤ nat_abs g.n)
-  shade-sized e = (e, subst (λ z. nat_abs z ≤ nat_abs g.n) (sym e) shade-size)
+  pub shade_sized : {r : ℤ} → r ≡ shade g → (r ≡ shade g) × (nat_abs r ≤ nat_abs g.n)
+  shade_sized e = (e, subst (λ z. nat_abs z ≤ nat_abs g.n) (sym e) shade_size)
 
 -- ---- a vertex with an edge, by its two comparisons
 abbrev pub told : Bool → PointPair → PointPair → Bool → Bool → Crossing

@@ -25,8 +25,8 @@ ends false p q = Cross (pos 1) p ∷ Cross (negsuc 0) q ∷ []
 abbrev pub turned : Slim → Slim
 turned c = record { n = neg_ℤ c.n; ay = c.ay; by = c.by; az = c.az; bz = c.bz }
 
-abbrev pub turned-if : Bool → Slim → Slim
-turned-if t c = cond t (turned c) c
+abbrev pub turned_if : Bool → Slim → Slim
+turned_if t c = cond t (turned c) c
 
 -- ---- the sum of S by y, the first plus and the first minus, gathered from the last to the first
 abbrev pub nothing : Sum
@@ -66,14 +66,14 @@ abbrev pub signed : Bool → ℤ → ℤ
 signed along n = cond along n (neg_ℤ n)
 
 unfoldable pub three : Bool → Slim → Bool → Slim → Bool → Slim → ℤ
-three tx x ty y tz z = shade (gathered (turned-if tx x ∷ turned-if ty y ∷ turned-if tz z ∷ []))
+three tx x ty y tz z = shade (gathered (turned_if tx x ∷ turned_if ty y ∷ turned_if tz z ∷ []))
 
 unfoldable pub four : Slim → Slim → Slim → Slim → ℤ
 four s t u v = shade (gathered (turned s ∷ t ∷ turned u ∷ v ∷ []))
 
 -- of a half-edge, whose edge starts and ends at the two the other way round where it runs against it
-abbrev pub side-B : Bool → Slim → Slim → Slim → Slim → ℤ
-side-B along s t from to = cond along (four s t from to) (neg_ℤ (four s t to from))
+abbrev pub side_B : Bool → Slim → Slim → Slim → Slim → ℤ
+side_B along s t from to = cond along (four s t from to) (neg_ℤ (four s t to from))
 
-abbrev pub side-A : Bool → Slim → Slim → Slim → Slim → ℤ
-side-A along from to s t = cond along (four from to s t) (neg_ℤ (four to from s t))
+abbrev pub side_A : Bool → Slim → Slim → Slim → Slim → ℤ
+side_A along from to s t = cond along (four from to s t) (neg_ℤ (four to from s t))

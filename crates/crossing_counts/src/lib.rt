@@ -102,7 +102,7 @@ fn ev(e: Edge, v: Point) -> Slim
 
 fn turned_if(t: bool, c: Slim) -> Slim
     requires { nat_abs c.n ≤ 1 }
-    ensures value { result ≡ Co.turned-if t c }
+    ensures value { result ≡ Co.turned_if t c }
     ensures small { nat_abs result.n ≤ 1 }
 {
     if t {
@@ -168,7 +168,7 @@ fn counted(c: Slim) -> i32
 // What it adds turned or not.
 fn counted_if(t: bool, c: Slim) -> i32
     requires { nat_abs c.n ≤ 1 }
-    ensures value { result ≡ Co.counted (Co.turned-if t c) }
+    ensures value { result ≡ Co.counted (Co.turned_if t c) }
     ensures small { nat_abs result ≤ 1 }
 {
     let n = counted(c);
@@ -257,7 +257,7 @@ fn four(s: Slim, t: Slim, u: Slim, v: Slim) -> i32
 // S by z of A's edge with a half-edge of B, from `from` to `to`.
 fn side_b(along: bool, s: Slim, t: Slim, from: Slim, to: Slim) -> i32
     requires { (nat_abs s.n ≤ 1) × (nat_abs t.n ≤ 1) × (nat_abs from.n ≤ 1) × (nat_abs to.n ≤ 1) }
-    ensures value { result ≡ Co.side-B along s t from to }
+    ensures value { result ≡ Co.side_B along s t from to }
     ensures small { nat_abs result ≤ 4 }
 {
     if along {
@@ -270,7 +270,7 @@ fn side_b(along: bool, s: Slim, t: Slim, from: Slim, to: Slim) -> i32
 // S by z of a half-edge of A, from `from` to `to`, with B's edge.
 fn side_a(along: bool, from: Slim, to: Slim, s: Slim, t: Slim) -> i32
     requires { (nat_abs from.n ≤ 1) × (nat_abs to.n ≤ 1) × (nat_abs s.n ≤ 1) × (nat_abs t.n ≤ 1) }
-    ensures value { result ≡ Co.side-A along from to s t }
+    ensures value { result ≡ Co.side_A along from to s t }
     ensures small { nat_abs result ≤ 4 }
 {
     if along {

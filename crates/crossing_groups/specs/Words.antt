@@ -16,10 +16,10 @@ use Rattle.crossing_groups.specs.declared.Search.{Search}
 
 -- two admitted solids, with the ends of A's edges and then of B's
 pub record Both (ap : List Float) (ac : List ℕ) (bp : List Float) (bc ends : List ℕ) : Type 0 where
-  pub ready-a : Ready ap ac (take 768 ends)
-  pub ready-b : Ready bp bc (drop 768 ends)
+  pub ready_a : Ready ap ac (take 768 ends)
+  pub ready_b : Ready bp bc (drop 768 ends)
   pub long : length ends ≡ 1536
-  pub passed-a : admission (solid ap ac) ≡ Accepted
+  pub passed_a : admission (solid ap ac) ≡ Accepted
   pub passed_b : admission (solid bp bc) ≡ Accepted
 
 -- ---- a search: rows of one kind

@@ -139,7 +139,7 @@ fn round_rows(search: Search, ap: &[f64], ac: &[u32], ae: &[u32]) -> Bounds
 fn narrow(own: Bounds, other: Bounds, boxes: &[f64], columns: &[u32], few: &mut [u32]) -> usize
     requires columns_in_bounds { (length columns.now ≤ length few.old) × (length columns.now ≤ 384) }
     requires there { (i : ℕ) → i < length columns.now → 6 * get_or columns.now i 0 + 6 ≤ length boxes.now }
-    ensures narrowed { Bo.Narrowed few.new Apart own (Bo.box-at boxes.now) (cond (Bo.apart own other) [] columns.now) result }
+    ensures narrowed { Bo.Narrowed few.new Apart own (Bo.box_at boxes.now) (cond (Bo.apart own other) [] columns.now) result }
     ensures same { length few.new ≡ length few.old }
 {
     if bounds::apart(own, other) {

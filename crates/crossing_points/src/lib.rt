@@ -13,7 +13,7 @@ use points::Point;
 // "A new vertex in a result is A's point."
 fn point_on(row: Row, bp: &[f64], bc: &[u32], be: &[u32], c: usize) -> Point
     requires { Ed.Ready bp.now bc.now be.now × (c < Cp.width row (So.lent bp bc)) }
-    ensures { result ≡ Cp.point-on row (So.lent bp.entry bc.entry) c }
+    ensures { result ≡ Cp.point_on row (So.lent bp.entry bc.entry) c }
 {
     let crossing = match row {
         Row::OfEdge(edge) => edge_facet::ef(edge, facets::facet(bp, bc, c)),
@@ -37,9 +37,9 @@ fn put_row(
 ) -> usize
     requires ready { Ed.Ready bp.now bc.now be.now }
     requires to_in_bounds { (to ≤ length crossed.now) × ((k : ℕ) → from ≤ k → k < to → La.column (get_or crossed.now k 0) < Cp.width row (So.lent bp bc)) }
-    requires to_in_bounds_2 { at + length (Cp.stretch (Cp.point-on row (So.lent bp bc)) crossed.now from to) ≤ length list.old }
-    ensures put { list.new ≡ sets list.old at (Cp.stretch (Cp.point-on row (So.lent bp.entry bc.entry)) crossed.now from to) }
-    ensures next { result ≡ at + length (Cp.stretch (Cp.point-on row (So.lent bp.entry bc.entry)) crossed.now from to) }
+    requires to_in_bounds_2 { at + length (Cp.stretch (Cp.point_on row (So.lent bp bc)) crossed.now from to) ≤ length list.old }
+    ensures put { list.new ≡ sets list.old at (Cp.stretch (Cp.point_on row (So.lent bp.entry bc.entry)) crossed.now from to) }
+    ensures next { result ≡ at + length (Cp.stretch (Cp.point_on row (So.lent bp.entry bc.entry)) crossed.now from to) }
 {
     let mut next = at;
     let mut k = from;
@@ -68,9 +68,9 @@ pub fn put_rows(
 ) -> usize
     requires ready { Ed.Ready ap.now ac.now (take 768 ends.now) × Ed.Ready bp.now bc.now (drop 768 ends.now) × (length ends.now ≡ 1536) }
     requires z_value { (z ≡ La.sizes (So.lent ap ac) (So.lent bp bc)) × La.Columns z first.now crossed.now }
-    requires crossed_in_bounds { at + length (Cp.of-rows (So.lent ap ac) (So.lent bp bc) first.now crossed.now) ≤ length list.old }
-    ensures put { list.new ≡ sets list.old at (Cp.of-rows (So.lent ap.entry ac.entry) (So.lent bp.entry bc.entry) first.now crossed.now) }
-    ensures next { result ≡ at + length (Cp.of-rows (So.lent ap.entry ac.entry) (So.lent bp.entry bc.entry) first.now crossed.now) }
+    requires crossed_in_bounds { at + length (Cp.of_rows (So.lent ap ac) (So.lent bp bc) first.now crossed.now) ≤ length list.old }
+    ensures put { list.new ≡ sets list.old at (Cp.of_rows (So.lent ap.entry ac.entry) (So.lent bp.entry bc.entry) first.now crossed.now) }
+    ensures next { result ≡ at + length (Cp.of_rows (So.lent ap.entry ac.entry) (So.lent bp.entry bc.entry) first.now crossed.now) }
 {
     let ae = &ends[..768];
     let be = &ends[768..];

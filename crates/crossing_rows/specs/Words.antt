@@ -6,13 +6,13 @@ use Rattle.list_words.specs.Lists.{up_to, keep, nonzero}
 use Rattle.points.specs.declared.Point.{Point}
 use Rattle.crossings.specs.Crossings.{count, ef, fe}
 use Rattle.solids.specs.Solids.{Solid, facets, edges, edge, facet}
-use Rattle.edges.specs.Words.{edge-numbered}
-use Rattle.results.specs.Inclusion.{edge-facet, facet-edge}
+use Rattle.edges.specs.Words.{edge_numbered}
+use Rattle.results.specs.Inclusion.{edge_facet, facet_edge}
 use Rattle.layouts.specs.Words.{sizes, columns, Listing, unpacked}
 use Rattle.bounds.specs.declared.Bounds.{Bounds}
 use Rattle.bounds.specs.declared.Thing.{Thing}
 use Rattle.bounds.specs.declared.Thing.TheVariants.{Edges, Facets}
-use Rattle.bounds.specs.Words.{round-edge, round-facet}
+use Rattle.bounds.specs.Words.{round_edge, round_facet}
 use Rattle.crossing_rows.specs.declared.Listed.{Listed}
 use Rattle.crossing_rows.specs.declared.Listed.TheVariants.{Found, Full}
 use Rattle.crossing_rows.specs.declared.Row.{Row}
@@ -23,7 +23,7 @@ use Rattle.crossing_rows.specs.declared.Row.TheVariants.{OfEdge, OfFacet}
 -- edge r of A with facet c of B, or behind A's edges a facet of A with edge c of B
 unfoldable pub count_at : Solid → Solid → ℕ → ℕ → ℤ
 count_at a b r c =
-    cond (ltb r (length (edges a))) (count (edge-facet a b (edge-numbered a r) c)) (count (facet-edge a b (r - length (edges a)) (edge-numbered b c)))
+    cond (ltb r (length (edges a))) (count (edge_facet a b (edge_numbered a r) c)) (count (facet_edge a b (r - length (edges a)) (edge_numbered b c)))
 
 -- those of a row that are not 0, each with its column and its count times s
 unfoldable pub row : ℤ → Solid → Solid → ℕ → List (ℕ × ℤ)
@@ -39,8 +39,8 @@ Answered s a b first crossed Full = length crossed < length (flat_map (row s a b
 
 -- ---- a row
 abbrev pub round : Row → Bounds
-round (OfEdge e) = round-edge e
-round (OfFacet f) = round-facet f
+round (OfEdge e) = round_edge e
+round (OfFacet f) = round_facet f
 
 -- what its columns are
 abbrev pub across : Row → Thing
@@ -54,11 +54,11 @@ Lying P (OfFacet f) = P f.p × P f.q × P f.r
 
 unfoldable pub count_of : Row → Solid → ℕ → ℤ
 count_of (OfEdge e) b c = count (ef e (facet b c))
-count_of (OfFacet f) b c = count (fe f (edge b (edge-numbered b c)))
+count_of (OfFacet f) b c = count (fe f (edge b (edge_numbered b c)))
 
 -- row r of A
 unfoldable pub row_of : Solid → ℕ → Row
-row_of a r = cond (ltb r (length (edges a))) (OfEdge (edge a (edge-numbered a r))) (OfFacet (facet a (r - length (edges a))))
+row_of a r = cond (ltb r (length (edges a))) (OfEdge (edge a (edge_numbered a r))) (OfFacet (facet a (r - length (edges a))))
 
 -- those of some columns whose count is not 0, each with its count times s
 abbrev pub crossing : ℤ → (ℕ → ℤ) → List ℕ → List (ℕ × ℤ)

@@ -6,7 +6,7 @@ use Rattle.points.specs.declared.Point.{Point}
 use Rattle.points.specs.declared.PointPair.{PointPair}
 use Rattle.points.specs.declared.Axis.{Axis}
 use Rattle.points.specs.declared.Axis.TheVariants.{X, Y, Z}
-use Rattle.points.specs.Points.{at_least, placed, zero-pair}
+use Rattle.points.specs.Points.{at_least, placed, zero_pair}
 use Rattle.crossings.specs.declared.Edge.{Edge}
 use Rattle.crossings.specs.declared.Facet.{Facet}
 use Rattle.crossings.specs.declared.Crossing.{Crossing}
@@ -19,7 +19,7 @@ count Miss = pos 0
 count (Cross n w) = n
 
 abbrev pub points : Crossing → PointPair
-points Miss = zero-pair
+points Miss = zero_pair
 points (Cross n w) = w
 
 -- "S equals X if X is not 0 and B's coordinate at the pair of points is at least A's; otherwise S is 0."
@@ -68,50 +68,50 @@ abbrev pub vv : Point → Point → Crossing
 vv a b = Cross (pos 1) (record { a = a; b = b })
 
 -- "X(vA,eB) = S(vA,e) - S(vA,s)", by x
-abbrev pub lower-ve : Point → Edge → List Crossing
-lower-ve v e = against (vv v e.start) ∷ vv v e.end ∷ []
+abbrev pub lower_ve : Point → Edge → List Crossing
+lower_ve v e = against (vv v e.start) ∷ vv v e.end ∷ []
 
 unfoldable pub ve : Point → Edge → Crossing
-ve v e = paired X (lower-ve v e)
+ve v e = paired X (lower_ve v e)
 
 -- "X(eA,vB) = S(s,vB) - S(e,vB)", by x
-abbrev pub lower-ev : Edge → Point → List Crossing
-lower-ev e v = vv e.start v ∷ against (vv e.end v) ∷ []
+abbrev pub lower_ev : Edge → Point → List Crossing
+lower_ev e v = vv e.start v ∷ against (vv e.end v) ∷ []
 
 unfoldable pub ev : Edge → Point → Crossing
-ev e v = paired X (lower-ev e v)
+ev e v = paired X (lower_ev e v)
 
 -- "X(vA,fB) = - sum S(vA,h)", by y
-abbrev pub lower-vf : Point → Facet → List Crossing
-lower-vf v f = halves (λ h. against (ve v h)) f
+abbrev pub lower_vf : Point → Facet → List Crossing
+lower_vf v f = halves (λ h. against (ve v h)) f
 
 unfoldable pub vf : Point → Facet → Crossing
-vf v f = paired Y (lower-vf v f)
+vf v f = paired Y (lower_vf v f)
 
 -- "X(fA,vB) = sum S(h,vB)", by y
-abbrev pub lower-fv : Facet → Point → List Crossing
-lower-fv f v = halves (λ h. ev h v) f
+abbrev pub lower_fv : Facet → Point → List Crossing
+lower_fv f v = halves (λ h. ev h v) f
 
 unfoldable pub fv : Facet → Point → Crossing
-fv f v = paired Y (lower-fv f v)
+fv f v = paired Y (lower_fv f v)
 
 -- "X(eA,eB) = S(eA's e,eB) - S(eA's s,eB) + S(eA,eB's e) - S(eA,eB's s)", by y
-abbrev pub lower-ee : Edge → Edge → List Crossing
-lower-ee a b = against (ve a.start b) ∷ ve a.end b ∷ against (ev a b.start) ∷ ev a b.end ∷ []
+abbrev pub lower_ee : Edge → Edge → List Crossing
+lower_ee a b = against (ve a.start b) ∷ ve a.end b ∷ against (ev a b.start) ∷ ev a b.end ∷ []
 
 unfoldable pub ee : Edge → Edge → Crossing
-ee a b = paired Y (lower-ee a b)
+ee a b = paired Y (lower_ee a b)
 
 -- "X(eA,fB) = S(s,fB) - S(e,fB) - sum S(eA,h)", by z
-abbrev pub lower-ef : Edge → Facet → List Crossing
-lower-ef e f = vf e.start f ∷ against (vf e.end f) ∷ halves (λ h. against (ee e h)) f
+abbrev pub lower_ef : Edge → Facet → List Crossing
+lower_ef e f = vf e.start f ∷ against (vf e.end f) ∷ halves (λ h. against (ee e h)) f
 
 unfoldable pub ef : Edge → Facet → Crossing
-ef e f = paired Z (lower-ef e f)
+ef e f = paired Z (lower_ef e f)
 
 -- "X(fA,eB) = S(fA,e) - S(fA,s) - sum S(h,eB)", by z
-abbrev pub lower-fe : Facet → Edge → List Crossing
-lower-fe f e = halves (λ h. against (ee h e)) f ++ (against (fv f e.start) ∷ fv f e.end ∷ [])
+abbrev pub lower_fe : Facet → Edge → List Crossing
+lower_fe f e = halves (λ h. against (ee h e)) f ++ (against (fv f e.start) ∷ fv f e.end ∷ [])
 
 unfoldable pub fe : Facet → Edge → Crossing
-fe f e = paired Z (lower-fe f e)
+fe f e = paired Z (lower_fe f e)

@@ -8,8 +8,8 @@ use crossings::Edge;
 
 // Does some half-edge join p and q, p being the lower?
 fn joins(table: &[u16; 16384], corners: &[u32], p: u32, q: u32) -> bool
-    requires { (p < 128) × (q < 128) × Sw.Tallied table.now (So.half-edges (So.solid [] corners.now)) }
-    ensures { result ≡ So.is-edge (So.half-edges (So.solid [] corners.now)) (p, q) }
+    requires { (p < 128) × (q < 128) × Sw.Tallied table.now (So.half_edges (So.solid [] corners.now)) }
+    ensures { result ≡ So.is_edge (So.half_edges (So.solid [] corners.now)) (p, q) }
 {
     if p < q {
         let there = tally::place(p, q);
@@ -34,9 +34,9 @@ fn put_edge(
     numbers: &mut [u16; 16384],
     k: usize,
 ) -> usize
-    requires p_lt_n { (p < n) × (q < n) × (n ≤ 128) × Sw.Tallied table.now (So.half-edges (So.solid [] corners.now)) }
-    requires listed { Ed.Listed (Ed.edges-seen corners.now n p q) ends.old numbers.old k }
-    ensures { Ed.Listed (Ed.edges-seen corners.now n p (q + 1)) ends.new numbers.new result }
+    requires p_lt_n { (p < n) × (q < n) × (n ≤ 128) × Sw.Tallied table.now (So.half_edges (So.solid [] corners.now)) }
+    requires listed { Ed.Listed (Ed.edges_seen corners.now n p q) ends.old numbers.old k }
+    ensures { Ed.Listed (Ed.edges_seen corners.now n p (q + 1)) ends.new numbers.new result }
 {
     if joins(table, corners, p, q) {
         list_stores::store(ends, 2 * k, p);
@@ -58,9 +58,9 @@ fn put_row(
     numbers: &mut [u16; 16384],
     k: usize,
 ) -> usize
-    requires p_lt_n { (p < n) × (n ≤ 128) × Sw.Tallied table.now (So.half-edges (So.solid [] corners.now)) }
-    requires listed { Ed.Listed (Ed.edges-seen corners.now n p 0) ends.old numbers.old k }
-    ensures { Ed.Listed (Ed.edges-seen corners.now n (p + 1) 0) ends.new numbers.new result }
+    requires p_lt_n { (p < n) × (n ≤ 128) × Sw.Tallied table.now (So.half_edges (So.solid [] corners.now)) }
+    requires listed { Ed.Listed (Ed.edges_seen corners.now n p 0) ends.old numbers.old k }
+    ensures { Ed.Listed (Ed.edges_seen corners.now n (p + 1) 0) ends.new numbers.new result }
 {
     let mut many = k;
     let mut q = 0;
@@ -79,9 +79,9 @@ pub fn list_edges(
     ends: &mut [u32],
     numbers: &mut [u16; 16384],
 ) -> usize
-    requires n_bound { (n ≤ 128) × Sw.Tallied table.now (So.half-edges (So.solid [] corners.now)) }
+    requires n_bound { (n ≤ 128) × Sw.Tallied table.now (So.half_edges (So.solid [] corners.now)) }
     requires listed { Ed.Listed [] ends.old numbers.old 0 }
-    ensures { Ed.Listed (Ed.edges-of corners.now n) ends.new numbers.new result }
+    ensures { Ed.Listed (Ed.edges_of corners.now n) ends.new numbers.new result }
 {
     let mut many = 0;
     let mut p = 0;
@@ -95,7 +95,7 @@ pub fn list_edges(
 // Edge number e, from its two ends in the list.
 pub fn edge_at(points: &[f64], ends: &[u32], corners: &[u32], e: usize) -> Edge
     requires { Ed.Ready points.now corners.now ends.now × (e < length (So.edges (So.lent points corners))) }
-    ensures { result ≡ So.edge (So.lent points.entry corners.entry) (Ed.edge-numbered (So.lent points.entry corners.entry) e) }
+    ensures { result ≡ So.edge (So.lent points.entry corners.entry) (Ed.edge_numbered (So.lent points.entry corners.entry) e) }
 {
     let start = ends[2 * e] as usize;
     let end = ends[2 * e + 1] as usize;

@@ -12,68 +12,68 @@ use lib.Dec.{eqb, ltb}
 use lib.IntN.{ℤ, pos, negsuc, nat_abs}
 use lib.ListN.{length}
 use Rattle.list_words.specs.Lists.{times, any, nonzero, above, below}
-use Rattle.list_words.proofs.Integers.{abs-parts}
-use Rattle.list_words.proofs.Sums.{All, all-at, all-mono, all-++}
-use Rattle.list_words.proofs.Tests.{or-true, or-false, never}
+use Rattle.list_words.proofs.Integers.{abs_parts}
+use Rattle.list_words.proofs.Sums.{All, all_at, all_mono, all-++}
+use Rattle.list_words.proofs.Tests.{or_true, or-false, never}
 use Rattle.results.specs.declared.End.{End}
 use Rattle.results.specs.Triangles.{fan}
 use Rattle.solids.specs.Solids.{Half}
 use Rattle.fan_counts.specs.declared.Tally.{Tally}
-use Rattle.fan_counts.specs.Words.{Composite, Joined, least-of, all-ends, piece-count, ends_at, summed, none_yet, told, tell, Near}
-use Rattle.fan_counts.proofs.Shuffles.{mem-times, times-mem, least-in, least-below}
-use Rattle.fan_counts.proofs.Counts.{times-flat, boundary-count}
+use Rattle.fan_counts.specs.Words.{Composite, Joined, least_of, all_ends, piece_count, ends_at, summed, none_yet, told, tell, Near}
+use Rattle.fan_counts.proofs.Shuffles.{mem_times, times_mem, least_in, least_below}
+use Rattle.fan_counts.proofs.Counts.{times_flat, boundary_count}
 
 -- ---- over two lists of ends
-pub pieces-append : (es ds : List End) → piece-count (es ++ ds) ≡ piece-count es + piece-count ds
-unfolding piece-count
-pieces-append [] ds = omega arith
-pieces-append (e ∷ es) ds = omega (arith, pieces-append es ds)
+pub pieces_append : (es ds : List End) → piece_count (es ++ ds) ≡ piece_count es + piece_count ds
+unfolding piece_count
+pieces_append [] ds = omega arith
+pieces_append (e ∷ es) ds = omega (arith, pieces_append es ds)
 
-pub at-append : (v : ℕ) (es ds : List End) → ends_at v (es ++ ds) ≡ ends_at v es + ends_at v ds
+pub at_append : (v : ℕ) (es ds : List End) → ends_at v (es ++ ds) ≡ ends_at v es + ends_at v ds
 unfolding ends_at
-at-append v [] ds = omega arith
-at-append v (e ∷ es) ds = omega (arith, at-append v es ds)
+at_append v [] ds = omega arith
+at_append v (e ∷ es) ds = omega (arith, at_append v es ds)
 
 -- ---- ends one after the other
-pub tell-append : (t : Tally) (es ds : List End) → tell t (es ++ ds) ≡ tell (tell t es) ds
-tell-append t [] ds = refl
-tell-append t (e ∷ es) ds = tell-append (told t e) es ds
+pub tell_append : (t : Tally) (es ds : List End) → tell t (es ++ ds) ≡ tell (tell t es) ds
+tell_append t [] ds = refl
+tell_append t (e ∷ es) ds = tell_append (told t e) es ds
 
 -- what does not count tells nothing
 told_none : (t : Tally) (e : End) → nonzero e.count ≡ false → told t e ≡ t
 told_none t e q = rw q
 
-pub tell-quiet : (t : Tally) (es : List End) → any (λ (e : End). nonzero e.count) es ≡ false → tell t es ≡ t
+pub tell_quiet : (t : Tally) (es : List End) → any (λ (e : End). nonzero e.count) es ≡ false → tell t es ≡ t
 unfolding any
-tell-quiet t [] h = refl
-tell-quiet t (e ∷ es) h =
+tell_quiet t [] h = refl
+tell_quiet t (e ∷ es) h =
     let b = or-false (nonzero e.count) (any (λ (e : End). nonzero e.count) es) h in
-    ap (λ s. tell s es) (told_none t e b.0) ∙ tell-quiet t es b.1
+    ap (λ s. tell s es) (told_none t e b.0) ∙ tell_quiet t es b.1
 
 -- ---- no tally grows by more than its ends
-pub near-self : (t : Tally) → Near t t 0
-near-self t = record { pieces = omega arith; at = omega arith }
+pub near_self : (t : Tally) → Near t t 0
+near_self t = record { pieces = omega arith; at = omega arith }
 
-pub near-then : {r s t : Tally} {m n : ℕ} → Near r s m → Near s t n → Near r t (m + n)
-near-then f g = record { pieces = omega (arith, f.pieces, g.pieces); at = omega (arith, f.at, g.at) }
+pub near_then : {r s t : Tally} {m n : ℕ} → Near r s m → Near s t n → Near r t (m + n)
+near_then f g = record { pieces = omega (arith, f.pieces, g.pieces); at = omega (arith, f.at, g.at) }
 
-pub near-less : {s t : Tally} {m n : ℕ} → Near s t m → m ≤ n → Near s t n
-near-less f h = record { pieces = omega (arith, f.pieces); at = omega (arith, f.at) }
+pub near_less : {s t : Tally} {m n : ℕ} → Near s t m → m ≤ n → Near s t n
+near_less f h = record { pieces = omega (arith, f.pieces); at = omega (arith, f.at) }
 
-near-told : (t : Tally) (e : End) → Near t (told t e) (nat_abs e.count)
-near-told t e = go (nonzero e.count) (eqb t.at 0 || ltb e.vertex t.least) (eqb t.least e.vertex)
+near_told : (t : Tally) (e : End) → Near t (told t e) (nat_abs e.count)
+near_told t e = go (nonzero e.count) (eqb t.at 0 || ltb e.vertex t.least) (eqb t.least e.vertex)
   where
     go : (a b c : Bool) → Near t (cond a (cond b
         (record { pieces = t.pieces + below e.count; least = e.vertex; at = nat_abs e.count })
         (record { pieces = t.pieces + below e.count; least = t.least; at = t.at + cond c (nat_abs e.count) 0 })) t) (nat_abs e.count)
-    go true true c = record { pieces = omega (arith, abs-parts e.count); at = omega arith }
-    go true false true = record { pieces = omega (arith, abs-parts e.count); at = omega arith }
-    go true false false = record { pieces = omega (arith, abs-parts e.count); at = omega arith }
+    go true true c = record { pieces = omega (arith, abs_parts e.count); at = omega arith }
+    go true false true = record { pieces = omega (arith, abs_parts e.count); at = omega arith }
+    go true false false = record { pieces = omega (arith, abs_parts e.count); at = omega arith }
     go false b c = record { pieces = omega arith; at = omega arith }
 
-pub near-one : {s t r : Tally} {m n : ℕ} (e : End) → Near s t m → r ≡ told t e → nat_abs e.count ≤ n → Near s r (m + n)
-near-one {s} {t} {r} {m} {n} e f q h =
-    let g = near-told t e in
+pub near_one : {s t r : Tally} {m n : ℕ} (e : End) → Near s t m → r ≡ told t e → nat_abs e.count ≤ n → Near s r (m + n)
+near_one {s} {t} {r} {m} {n} e f q h =
+    let g = near_told t e in
     record { pieces = omega (arith, ap (λ (t : Tally). t.pieces) q, f.pieces, g.pieces); at = omega (arith, ap (λ (t : Tally). t.at) q, f.at, g.at) }
 
 -- ---- what a tally says of the ends so far
@@ -81,15 +81,15 @@ abbrev Counts : End → Type 0
 Counts e = nonzero e.count ≡ true
 
 pub record Tallied (es : List End) (t : Tally) : Type 0 where
-  pub pieces : t.pieces ≡ piece-count es
+  pub pieces : t.pieces ≡ piece_count es
   pub at : t.at ≡ ends_at t.least es
   pub low : All (λ e. Counts e → t.least ≤ e.vertex) es
   pub some : t.at ≡ 0 → All (λ (e : End). nonzero e.count ≡ false) es
 
-zero-size : (n : ℤ) → nonzero n ≡ false → (nat_abs n ≡ 0) × (below n ≡ 0)
-zero-size (pos zero) h = (refl, refl)
-zero-size (pos (suc n)) h = absurd (never true refl h)
-zero-size (negsuc n) h = absurd (never true refl h)
+zero_size : (n : ℤ) → nonzero n ≡ false → (nat_abs n ≡ 0) × (below n ≡ 0)
+zero_size (pos zero) h = (refl, refl)
+zero_size (pos (suc n)) h = absurd (never true refl h)
+zero_size (negsuc n) h = absurd (never true refl h)
 
 some_size : (n : ℤ) → nonzero n ≡ true → 0 < nat_abs n
 some_size (pos zero) h = absurd (never false h refl)
@@ -97,10 +97,10 @@ some_size (pos (suc n)) h = omega arith
 some_size (negsuc n) h = omega arith
 
 -- no end at v, if none that counts has it
-none-at : (v : ℕ) (es : List End) → All (λ e. Counts e → v ≢ e.vertex) es → ends_at v es ≡ 0
+none_at : (v : ℕ) (es : List End) → All (λ e. Counts e → v ≢ e.vertex) es → ends_at v es ≡ 0
 unfolding ends_at
-none-at v [] a = refl
-none-at v (e ∷ es) a = go (nonzero e.count) refl (none-at v es a.1)
+none_at v [] a = refl
+none_at v (e ∷ es) a = go (nonzero e.count) refl (none_at v es a.1)
   where
     quiet : (b : Bool) (n : ℕ) → n ≡ 0 → cond b n 0 ≡ 0
     quiet true n z = z
@@ -108,30 +108,30 @@ none-at v (e ∷ es) a = go (nonzero e.count) refl (none-at v es a.1)
 
     go : (b : Bool) → nonzero e.count ≡ b → ends_at v es ≡ 0 → cond (eqb v e.vertex) (nat_abs e.count) 0 + ends_at v es ≡ 0
     go true q ih = rw (ne_eqb v e.vertex (a.0 q)) (omega arith)
-    go false q ih = omega (arith, quiet (eqb v e.vertex) (nat_abs e.count) (zero-size e.count q).0)
+    go false q ih = omega (arith, quiet (eqb v e.vertex) (nat_abs e.count) (zero_size e.count q).0)
 
 one_at : (v : ℕ) (e : End) → ends_at v (e ∷ []) ≡ cond (eqb v e.vertex) (nat_abs e.count) 0
 unfolding ends_at
 one_at v e = omega arith
 
-one_piece : (e : End) → piece-count (e ∷ []) ≡ below e.count
-unfolding piece-count
+one_piece : (e : End) → piece_count (e ∷ []) ≡ below e.count
+unfolding piece_count
 one_piece e = omega arith
 
 module _ (es : List End) (t : Tally) (e : End) (h : Tallied es t) where
-  pieces-next : t.pieces + below e.count ≡ piece-count (es ++ (e ∷ []))
-  pieces-next = omega (arith, h.pieces, pieces-append es (e ∷ []), one_piece e)
+  pieces_next : t.pieces + below e.count ≡ piece_count (es ++ (e ∷ []))
+  pieces_next = omega (arith, h.pieces, pieces_append es (e ∷ []), one_piece e)
 
   -- the end is at a new least vertex
   fresh : Counts e → All (λ d. Counts d → e.vertex < d.vertex) es → Tallied (es ++ (e ∷ [])) (record { pieces = t.pieces + below e.count; least = e.vertex; at = nat_abs e.count })
   fresh q away =
       record {
-        pieces = pieces-next;
+        pieces = pieces_next;
         at =
-            let z = none-at e.vertex es (all-mono _ _ es (λ d f c k. omega (arith, f c)) away) in
+            let z = none_at e.vertex es (all_mono _ _ es (λ d f c k. omega (arith, f c)) away) in
             let o : ends_at e.vertex (e ∷ []) ≡ nat_abs e.count = one_at e.vertex e ∙ rw (eq-eqb e.vertex e.vertex refl) in
-            omega (arith, at-append e.vertex es (e ∷ []), z, o);
-        low = all-++ _ es (e ∷ []) (all-mono _ _ es (λ d f c. omega (arith, f c)) away) ((λ c. omega arith), tt);
+            omega (arith, at_append e.vertex es (e ∷ []), z, o);
+        low = all-++ _ es (e ∷ []) (all_mono _ _ es (λ d f c. omega (arith, f c)) away) ((λ c. omega arith), tt);
         some = λ k. absurd (omega (arith, some_size e.count q));
       }
 
@@ -139,8 +139,8 @@ module _ (es : List End) (t : Tally) (e : End) (h : Tallied es t) where
   stays : Counts e → t.least ≤ e.vertex → (t.at ≡ 0 → ⊥) → Tallied (es ++ (e ∷ [])) (record { pieces = t.pieces + below e.count; least = t.least; at = t.at + cond (eqb t.least e.vertex) (nat_abs e.count) 0 })
   stays q l n =
       record {
-        pieces = pieces-next;
-        at = omega (arith, h.at, at-append t.least es (e ∷ []), one_at t.least e);
+        pieces = pieces_next;
+        at = omega (arith, h.at, at_append t.least es (e ∷ []), one_at t.least e);
         low = all-++ _ es (e ∷ []) h.low ((λ c. l), tt);
         some = λ k. absurd (n (omega arith));
       }
@@ -148,10 +148,10 @@ module _ (es : List End) (t : Tally) (e : End) (h : Tallied es t) where
   -- the end does not count
   passes : nonzero e.count ≡ false → Tallied (es ++ (e ∷ [])) t
   passes q =
-      let z = zero-size e.count q in
+      let z = zero_size e.count q in
       record {
-        pieces = omega (arith, pieces-next, z.1);
-        at = omega (arith, h.at, at-append t.least es (e ∷ []), none-at t.least (e ∷ []) ((λ c k. never (nonzero e.count) c q), tt));
+        pieces = omega (arith, pieces_next, z.1);
+        at = omega (arith, h.at, at_append t.least es (e ∷ []), none_at t.least (e ∷ []) ((λ c k. never (nonzero e.count) c q), tt));
         low = all-++ _ es (e ∷ []) h.low ((λ c. absurd (never (nonzero e.count) c q)), tt);
         some = λ k. all-++ _ es (e ∷ []) (h.some k) (q, tt);
       }
@@ -162,9 +162,9 @@ module _ (es : List End) (t : Tally) (e : End) (h : Tallied es t) where
       new : (b : Bool) → (eqb t.at 0 || ltb e.vertex t.least) ≡ b → Counts e → Tallied (es ++ (e ∷ [])) (cond b
           (record { pieces = t.pieces + below e.count; least = e.vertex; at = nat_abs e.count })
           (record { pieces = t.pieces + below e.count; least = t.least; at = t.at + cond (eqb t.least e.vertex) (nat_abs e.count) 0 }))
-      new true r q = fresh q (elim (or-true (eqb t.at 0) (ltb e.vertex t.least) r) [
-        | inl z ↦ all-mono _ _ es (λ d f c. absurd (never (nonzero d.count) c f)) (h.some (eqb-true t.at 0 z))
-        | inr z ↦ all-mono _ _ es (λ d f c. omega (arith, f c, ltb-true e.vertex t.least z)) h.low
+      new true r q = fresh q (elim (or_true (eqb t.at 0) (ltb e.vertex t.least) r) [
+        | inl z ↦ all_mono _ _ es (λ d f c. absurd (never (nonzero d.count) c f)) (h.some (eqb-true t.at 0 z))
+        | inr z ↦ all_mono _ _ es (λ d f c. omega (arith, f c, ltb-true e.vertex t.least z)) h.low
       ])
       new false r q = let s = or-false (eqb t.at 0) (ltb e.vertex t.least) r in stays q (ltb-false e.vertex t.least s.1) (eqb-false t.at 0 s.0)
 
@@ -175,57 +175,57 @@ module _ (es : List End) (t : Tally) (e : End) (h : Tallied es t) where
       go true q = new (eqb t.at 0 || ltb e.vertex t.least) refl q
       go false q = passes q
 
-pub tell-more : (es ds : List End) (t : Tally) → Tallied es t → Tallied (es ++ ds) (tell t ds)
-tell-more es [] t h = rw (append-nil es) h
-tell-more es (d ∷ ds) t h = subst (λ l. Tallied l (tell (told t d) ds)) (append_assoc es (d ∷ []) ds) (tell-more (es ++ (d ∷ [])) ds (told t d) (told_more es t d h))
+pub tell_more : (es ds : List End) (t : Tally) → Tallied es t → Tallied (es ++ ds) (tell t ds)
+tell_more es [] t h = rw (append-nil es) h
+tell_more es (d ∷ ds) t h = subst (λ l. Tallied l (tell (told t d) ds)) (append_assoc es (d ∷ []) ds) (tell_more (es ++ (d ∷ [])) ds (told t d) (told_more es t d h))
 
-tallied-none : Tallied [] none_yet
-unfolding piece-count ends_at
-tallied-none = record { pieces = refl; at = refl; low = tt; some = λ k. tt }
+tallied_none : Tallied [] none_yet
+unfolding piece_count ends_at
+tallied_none = record { pieces = refl; at = refl; low = tt; some = λ k. tt }
 
 -- ---- the least vertex
-least-mem : (l : List ℕ) {v : ℕ} → Memᴰ v l → Memᴰ (least-of l) l
-least-mem [] m = absurd (mathlib.Core.List.Memᴰ.not-nil m)
-least-mem (x ∷ l) m = least-in x l
+least_mem : (l : List ℕ) {v : ℕ} → Memᴰ v l → Memᴰ (least_of l) l
+least_mem [] m = absurd (mathlib.Core.List.Memᴰ.not_nil m)
+least_mem (x ∷ l) m = least_in x l
 
 -- of any list in which each number stands as often as it has ends
 module _ (es : List End) (t : Tally) (h : Tallied es t) (l : List ℕ) (same : (v : ℕ) → times eqb v l ≡ ends_at v es) where
-  above-least : (v : ℕ) → Memᴰ v l → t.least ≤ v
-  above-least v m = elim (dec_lt v t.least) [
+  above_least : (v : ℕ) → Memᴰ v l → t.least ≤ v
+  above_least v m = elim (dec_lt v t.least) [
     | yes k ↦
-        let z = none-at v es (all-mono _ _ es (λ d f c q. omega (arith, f c)) h.low) in
-        absurd (omega (arith, mem-times m, same v))
+        let z = none_at v es (all_mono _ _ es (λ d f c q. omega (arith, f c)) h.low) in
+        absurd (omega (arith, mem_times m, same v))
     | no n ↦ omega arith
   ]
 
-  pub least-told : ends_at (least-of l) es ≡ t.at
-  least-told = elim (ℕ_discrete t.at 0) [
-    | yes z ↦ none-at (least-of l) es (all-mono _ _ es (λ d f c k. never (nonzero d.count) c f) (h.some z)) ∙ sym z
+  pub least_told : ends_at (least_of l) es ≡ t.at
+  least_told = elim (ℕ_discrete t.at 0) [
+    | yes z ↦ none_at (least_of l) es (all_mono _ _ es (λ d f c k. never (nonzero d.count) c f) (h.some z)) ∙ sym z
     | no n ↦
-        let m : Memᴰ t.least l = times-mem t.least l (omega (arith, same t.least, h.at)) in
-        let e : least-of l ≡ t.least = le_antisymm (all-at (λ v. least-of l ≤ v) m (least-below l)) (above-least (least-of l) (least-mem l m)) in
+        let m : Memᴰ t.least l = times_mem t.least l (omega (arith, same t.least, h.at)) in
+        let e : least_of l ≡ t.least = le_antisymm (all_at (λ v. least_of l ≤ v) m (least_below l)) (above_least (least_of l) (least_mem l m)) in
         ap (λ v. ends_at v es) e ∙ sym h.at
   ]
 
 -- ---- a boundary
-pieces-flat : {A : Type 0} (ends : A → List End) (l : List A) → piece-count (flat_map ends l) ≡ summed (λ x. piece-count (ends x)) l
-unfolding flat_map summed piece-count
-pieces-flat ends [] = refl
-pieces-flat ends (x ∷ l) = omega (arith, pieces-append (ends x) (flat_map ends l), pieces-flat ends l)
+pieces_flat : {A : Type 0} (ends : A → List End) (l : List A) → piece_count (flat_map ends l) ≡ summed (λ x. piece_count (ends x)) l
+unfolding flat_map summed piece_count
+pieces_flat ends [] = refl
+pieces_flat ends (x ∷ l) = omega (arith, pieces_append (ends x) (flat_map ends l), pieces_flat ends l)
 
-at-flat : {A : Type 0} (v : ℕ) (ends : A → List End) (l : List A) → ends_at v (flat_map ends l) ≡ summed (λ x. ends_at v (ends x)) l
+at_flat : {A : Type 0} (v : ℕ) (ends : A → List End) (l : List A) → ends_at v (flat_map ends l) ≡ summed (λ x. ends_at v (ends x)) l
 unfolding flat_map summed ends_at
-at-flat v ends [] = refl
-at-flat v ends (x ∷ l) = omega (arith, at-append v (ends x) (flat_map ends l), at-flat v ends l)
+at_flat v ends [] = refl
+at_flat v ends (x ∷ l) = omega (arith, at_append v (ends x) (flat_map ends l), at_flat v ends l)
 
 -- COUNTED WITHOUT JOINING: what all ends of a boundary tell
-pub tally-count : {A : Type 0} (l : List A) (ends : A → List End) → All (λ x. Composite (ends x)) l → (p : A → List Half) → All (λ x. Joined (ends x) (p x)) l → (o : ℕ)
+pub tally_count : {A : Type 0} (l : List A) (ends : A → List End) → All (λ x. Composite (ends x)) l → (p : A → List Half) → All (λ x. Joined (ends x) (p x)) l → (o : ℕ)
     → length (fan o (flat_map p l)) + (tell none_yet (flat_map ends l)).at ≡ (tell none_yet (flat_map ends l)).pieces
-tally-count l ends c p j o =
-    let h = tell-more [] (flat_map ends l) none_yet tallied-none in
-    let m = flat_map (λ x. all-ends (ends x)) l in
-    let at = least-told (flat_map ends l) (tell none_yet (flat_map ends l)) h m (λ v. times-flat v ends l ∙ sym (at-flat v ends l)) in
-    omega (arith, boundary-count l ends c p j o, h.pieces, pieces-flat ends l, at, at-flat (least-of m) ends l)
+tally_count l ends c p j o =
+    let h = tell_more [] (flat_map ends l) none_yet tallied_none in
+    let m = flat_map (λ x. all_ends (ends x)) l in
+    let at = least_told (flat_map ends l) (tell none_yet (flat_map ends l)) h m (λ v. times_flat v ends l ∙ sym (at_flat v ends l)) in
+    omega (arith, boundary_count l ends c p j o, h.pieces, pieces_flat ends l, at, at_flat (least_of m) ends l)
 
 -- ---- the cases of one end more
 size_none : (n : ℤ) → below n + above n ≡ 0 → nonzero n ≡ false
@@ -233,30 +233,30 @@ size_none (pos zero) h = refl
 size_none (pos (suc n)) h = absurd (omega arith)
 size_none (negsuc n) h = absurd (omega arith)
 
-size-some : (n : ℤ) → (below n + above n ≡ 0 → ⊥) → nonzero n ≡ true
-size-some (pos zero) h = absurd (h refl)
-size-some (pos (suc n)) h = refl
-size-some (negsuc n) h = refl
+size_some : (n : ℤ) → (below n + above n ≡ 0 → ⊥) → nonzero n ≡ true
+size_some (pos zero) h = absurd (h refl)
+size_some (pos (suc n)) h = refl
+size_some (negsuc n) h = refl
 
-size-abs : (n : ℤ) → nat_abs n ≡ below n + above n
-size-abs n = omega (arith, abs-parts n)
+size_abs : (n : ℤ) → nat_abs n ≡ below n + above n
+size_abs n = omega (arith, abs_parts n)
 
 module _ (t : Tally) (e : End) (s u : ℕ) (es : s ≡ below e.count) (eu : u ≡ above e.count) where
-  pub told-off : s + u ≡ 0 → told t e ≡ t
-  told-off z = let q = size_none e.count (omega (arith, es, eu)) in rw q
+  pub told_off : s + u ≡ 0 → told t e ≡ t
+  told_off z = let q = size_none e.count (omega (arith, es, eu)) in rw q
 
   module _ (some : s + u ≡ 0 → ⊥) where
     counts_some : nonzero e.count ≡ true
-    counts_some = size-some e.count (λ z. some (omega (arith, es, eu)))
+    counts_some = size_some e.count (λ z. some (omega (arith, es, eu)))
 
-    pub told-first : t.at ≡ 0 → record { pieces = t.pieces + s; least = e.vertex; at = s + u } ≡ told t e
-    told-first z = rw (counts_some, eq-eqb t.at 0 z, size-abs e.count, es, eu)
+    pub told_first : t.at ≡ 0 → record { pieces = t.pieces + s; least = e.vertex; at = s + u } ≡ told t e
+    told_first z = rw (counts_some, eq-eqb t.at 0 z, size_abs e.count, es, eu)
 
-    pub told-lower : (t.at ≡ 0 → ⊥) → e.vertex < t.least → record { pieces = t.pieces + s; least = e.vertex; at = s + u } ≡ told t e
-    told-lower n l = rw (counts_some, ne_eqb t.at 0 n, lt-ltb _ _ l, size-abs e.count, es, eu)
+    pub told_lower : (t.at ≡ 0 → ⊥) → e.vertex < t.least → record { pieces = t.pieces + s; least = e.vertex; at = s + u } ≡ told t e
+    told_lower n l = rw (counts_some, ne_eqb t.at 0 n, lt-ltb _ _ l, size_abs e.count, es, eu)
 
-    pub told-there : (t.at ≡ 0 → ⊥) → t.least ≤ e.vertex → t.least ≡ e.vertex → record { pieces = t.pieces + s; least = t.least; at = t.at + (s + u) } ≡ told t e
-    told-there n l q = rw (counts_some, ne_eqb t.at 0 n, le-ltb _ _ l, eq-eqb _ _ q, size-abs e.count, es, eu)
+    pub told_there : (t.at ≡ 0 → ⊥) → t.least ≤ e.vertex → t.least ≡ e.vertex → record { pieces = t.pieces + s; least = t.least; at = t.at + (s + u) } ≡ told t e
+    told_there n l q = rw (counts_some, ne_eqb t.at 0 n, le-ltb _ _ l, eq-eqb _ _ q, size_abs e.count, es, eu)
 
-    pub told-higher : (t.at ≡ 0 → ⊥) → t.least ≤ e.vertex → (t.least ≡ e.vertex → ⊥) → record { pieces = t.pieces + s; least = t.least; at = t.at } ≡ told t e
-    told-higher n l q = let z : t.at + 0 ≡ t.at = omega arith in rw (counts_some, ne_eqb t.at 0 n, le-ltb _ _ l, ne_eqb _ _ q, es, z)
+    pub told_higher : (t.at ≡ 0 → ⊥) → t.least ≤ e.vertex → (t.least ≡ e.vertex → ⊥) → record { pieces = t.pieces + s; least = t.least; at = t.at } ≡ told t e
+    told_higher n l q = let z : t.at + 0 ≡ t.at = omega arith in rw (counts_some, ne_eqb t.at 0 n, le-ltb _ _ l, ne_eqb _ _ q, es, z)

@@ -17,9 +17,9 @@ unfoldable pub on : List Half → List ℕ
 on hs = flat_map (λ (h : Half). h.0 ∷ h.1 ∷ []) hs
 
 -- the least of a list of numbers; of nothing there is none
-unfoldable pub least-of : List ℕ → ℕ
-least-of [] = 0
-least-of (v ∷ l) = least v l
+unfoldable pub least_of : List ℕ → ℕ
+least_of [] = 0
+least_of (v ∷ l) = least v l
 
 -- ends that can be joined: as many starts as stops, and no vertex has both
 pub record Composite (es : List End) : Type 0 where
@@ -31,17 +31,17 @@ pub record Joined (es : List End) (hs : List Half) : Type 0 where
   pub from : List ℕ
   pub to : List ℕ
   pub back : Bool
-  pub of-starts : Shuffled from (starts es)
-  pub of-stops : Shuffled to (stops es)
+  pub of_starts : Shuffled from (starts es)
+  pub of_stops : Shuffled to (stops es)
   pub pieces : hs ≡ cond back (map turned (zip from to)) (zip from to)
 
 -- all ends of a composite edge, and how many pieces they make; how many ends are at v
-unfoldable pub all-ends : List End → List ℕ
-all-ends es = starts es ++ stops es
+unfoldable pub all_ends : List End → List ℕ
+all_ends es = starts es ++ stops es
 
-unfoldable pub piece-count : List End → ℕ
-piece-count [] = 0
-piece-count (e ∷ es) = below e.count + piece-count es
+unfoldable pub piece_count : List End → ℕ
+piece_count [] = 0
+piece_count (e ∷ es) = below e.count + piece_count es
 
 unfoldable pub ends_at : ℕ → List End → ℕ
 ends_at v [] = 0

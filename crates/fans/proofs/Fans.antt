@@ -11,70 +11,70 @@ use lib.ListN.{length, get_or, take, set, length-append, length-map}
 use lib.Seq.{sets, length-sets, get_or-take}
 use Rattle.list_words.specs.Lists.{up_to, keep, least, onto}
 use Rattle.list_words.proofs.Sums.{flat_append}
-use Rattle.list_words.proofs.UpTo.{length-upTo}
-use Rattle.list_words.proofs.Threes.{length-threes}
+use Rattle.list_words.proofs.UpTo.{length_up_to}
+use Rattle.list_words.proofs.Threes.{length_threes}
 use Rattle.list_stores.proofs.Kept.{keep_append}
-use Rattle.list_stores.proofs.Stores.{sets-append, sets-onto}
+use Rattle.list_stores.proofs.Stores.{sets_append, sets_onto}
 use Rattle.solids.specs.Solids.{Half}
-use Rattle.results.specs.Triangles.{Triangle, smallest, at-end, fan, corners-of}
+use Rattle.results.specs.Triangles.{Triangle, smallest, at_end, fan, corners_of}
 use Rattle.joined_ends.specs.Words.{flat, firsts}
-use Rattle.joined_ends.proofs.Flat.{firsts-next, numbers-firsts}
-use Rattle.fans.specs.Words.{fan-at, origins-of, Laid}
+use Rattle.joined_ends.proofs.Flat.{firsts_next, numbers_firsts}
+use Rattle.fans.specs.Words.{fan_at, origins_of, Laid}
 
 -- ---- the smallest number on a boundary
-smallest-number : (hs : List Half) → 0 < length hs → smallest hs ≡ least (get_or (flat hs) 0 0) (flat hs)
+smallest_number : (hs : List Half) → 0 < length hs → smallest hs ≡ least (get_or (flat hs) 0 0) (flat hs)
 unfolding smallest flat flat_map
-smallest-number [] h = absurd (omega arith)
-smallest-number (x ∷ hs) h = refl
+smallest_number [] h = absurd (omega arith)
+smallest_number (x ∷ hs) h = refl
 
-length-firsts : (l : List ℕ) (n : ℕ) → length (firsts l n) ≡ n
+length_firsts : (l : List ℕ) (n : ℕ) → length (firsts l n) ≡ n
 unfolding firsts
-length-firsts l n = length-map (up_to n) (λ i. (get_or l (2 * i) 0, get_or l (2 * i + 1) 0)) ∙ length-upTo n
+length_firsts l n = length-map (up_to n) (λ i. (get_or l (2 * i) 0, get_or l (2 * i + 1) 0)) ∙ length_up_to n
 
-smallest-firsts : (l : List ℕ) (n : ℕ) → 0 < n → 2 * n ≤ length l → smallest (firsts l n) ≡ least (get_or l 0 0) (take (2 * n) l)
-smallest-firsts l n h k =
-    smallest-number (firsts l n) (omega (arith, length-firsts l n)) ∙ rw (numbers-firsts l n k) (ap (λ m. least m (take (2 * n) l)) (get_or-take (2 * n) l 0 0 (omega arith)))
+smallest_firsts : (l : List ℕ) (n : ℕ) → 0 < n → 2 * n ≤ length l → smallest (firsts l n) ≡ least (get_or l 0 0) (take (2 * n) l)
+smallest_firsts l n h k =
+    smallest_number (firsts l n) (omega (arith, length_firsts l n)) ∙ rw (numbers_firsts l n k) (ap (λ m. least m (take (2 * n) l)) (get_or-take (2 * n) l 0 0 (omega arith)))
 
 -- ---- the fan
-pub fan-first : (o : ℕ) (l : List ℕ) (n : ℕ) → 0 < n → 2 * n ≤ length l → fan o (firsts l n) ≡ fan-at o (least (get_or l 0 0) (take (2 * n) l)) (firsts l n)
-unfolding fan fan-at
-fan-first o l n h k = ap (λ a. fan-at o a (firsts l n)) (smallest-firsts l n h k)
+pub fan_first : (o : ℕ) (l : List ℕ) (n : ℕ) → 0 < n → 2 * n ≤ length l → fan o (firsts l n) ≡ fan_at o (least (get_or l 0 0) (take (2 * n) l)) (firsts l n)
+unfolding fan fan_at
+fan_first o l n h k = ap (λ a. fan_at o a (firsts l n)) (smallest_firsts l n h k)
 
-pub fan-none : (o : ℕ) (l : List ℕ) (n : ℕ) → n ≡ 0 → fan o (firsts l n) ≡ []
+pub fan_none : (o : ℕ) (l : List ℕ) (n : ℕ) → n ≡ 0 → fan o (firsts l n) ≡ []
 unfolding fan firsts up_to keep
-fan-none o l n e = rw e
+fan_none o l n e = rw e
 
-pub fan-start : (o a : ℕ) (l : List ℕ) → fan-at o a (firsts l 0) ≡ []
-unfolding fan-at firsts up_to keep
-fan-start o a l = refl
+pub fan_start : (o a : ℕ) (l : List ℕ) → fan_at o a (firsts l 0) ≡ []
+unfolding fan_at firsts up_to keep
+fan_start o a l = refl
 
-fan-append : (o a : ℕ) (xs ys : List Half) → fan-at o a (xs ++ ys) ≡ fan-at o a xs ++ fan-at o a ys
-unfolding fan-at
-fan-append o a xs ys =
-    let p : Half → Bool = λ h. not (at-end a h) in
+fan_append : (o a : ℕ) (xs ys : List Half) → fan_at o a (xs ++ ys) ≡ fan_at o a xs ++ fan_at o a ys
+unfolding fan_at
+fan_append o a xs ys =
+    let p : Half → Bool = λ h. not (at_end a h) in
     rw (keep_append p xs ys) (map-append (λ (h : Half). record { a = a; p = h.0; q = h.1; origin = o }) (keep p xs) (keep p ys))
 
-pub fan-next : (o a : ℕ) (l : List ℕ) (i : ℕ) → fan-at o a (firsts l (i + 1)) ≡ fan-at o a (firsts l i) ++ fan-at o a ((get_or l (2 * i) 0, get_or l (2 * i + 1) 0) ∷ [])
-fan-next o a l i = rw (add-one i, firsts-next l i) (fan-append o a (firsts l i) ((get_or l (2 * i) 0, get_or l (2 * i + 1) 0) ∷ []))
+pub fan_next : (o a : ℕ) (l : List ℕ) (i : ℕ) → fan_at o a (firsts l (i + 1)) ≡ fan_at o a (firsts l i) ++ fan_at o a ((get_or l (2 * i) 0, get_or l (2 * i + 1) 0) ∷ [])
+fan_next o a l i = rw (add-one i, firsts_next l i) (fan_append o a (firsts l i) ((get_or l (2 * i) 0, get_or l (2 * i + 1) 0) ∷ []))
 
 module _ (o a p q : ℕ) where
-  pub fan-at-p : a ≡ p → fan-at o a ((p, q) ∷ []) ≡ []
-  unfolding fan-at keep
-  fan-at-p e = rw (eq-eqb _ _ e)
+  pub fan_at_p : a ≡ p → fan_at o a ((p, q) ∷ []) ≡ []
+  unfolding fan_at keep
+  fan_at_p e = rw (eq-eqb _ _ e)
 
-  pub fan-at-q : (a ≡ p → ⊥) → a ≡ q → fan-at o a ((p, q) ∷ []) ≡ []
-  unfolding fan-at keep
-  fan-at-q n e = rw (ne_eqb _ _ n, eq-eqb _ _ e)
+  pub fan_at_q : (a ≡ p → ⊥) → a ≡ q → fan_at o a ((p, q) ∷ []) ≡ []
+  unfolding fan_at keep
+  fan_at_q n e = rw (ne_eqb _ _ n, eq-eqb _ _ e)
 
-  pub fan-apart : (a ≡ p → ⊥) → (a ≡ q → ⊥) → fan-at o a ((p, q) ∷ []) ≡ record { a = a; p = p; q = q; origin = o } ∷ []
-  unfolding fan-at keep
-  fan-apart n m = rw (ne_eqb _ _ n, ne_eqb _ _ m)
+  pub fan_apart : (a ≡ p → ⊥) → (a ≡ q → ⊥) → fan_at o a ((p, q) ∷ []) ≡ record { a = a; p = p; q = q; origin = o } ∷ []
+  unfolding fan_at keep
+  fan_apart n m = rw (ne_eqb _ _ n, ne_eqb _ _ m)
 
 -- ---- one behind the other
-pub three-each : (ts : List Triangle) → length (flat_map corners-of ts) ≡ 3 * length ts
-three-each ts = length-threes (λ (t : Triangle). t.a) (λ (t : Triangle). t.p) (λ (t : Triangle). t.q) ts
+pub three_each : (ts : List Triangle) → length (flat_map corners_of ts) ≡ 3 * length ts
+three_each ts = length_threes (λ (t : Triangle). t.a) (λ (t : Triangle). t.p) (λ (t : Triangle). t.q) ts
 
-pub one_each : (ts : List Triangle) → length (origins-of ts) ≡ length ts
+pub one_each : (ts : List Triangle) → length (origins_of ts) ≡ length ts
 one_each ts = length-map ts (λ (t : Triangle). t.origin)
 
 pub laid_none : (cs os : List ℕ) (k : ℕ) → Laid [] cs os k cs os k
@@ -88,24 +88,24 @@ laid_one o a p q cs os k c d = record { corners = c; origins = d; count = refl }
 
 pub laid_more : {ts us : List Triangle} {cs₀ os₀ cs os cs' os' : List ℕ} {k₀ k k' : ℕ} → Laid ts cs₀ os₀ k₀ cs os k → Laid us cs os k cs' os' k' → Laid (ts ++ us) cs₀ os₀ k₀ cs' os' k'
 laid_more {ts} {us} {cs₀} {os₀} {cs} {os} {cs'} {os'} {k₀} {k} {k'} a b =
-    let e : 3 * k ≡ 3 * k₀ + length (flat_map corners-of ts) = omega (arith, three-each ts, a.count) in
-    let d : k ≡ k₀ + length (origins-of ts) = omega (arith, one_each ts, a.count) in
+    let e : 3 * k ≡ 3 * k₀ + length (flat_map corners_of ts) = omega (arith, three_each ts, a.count) in
+    let d : k ≡ k₀ + length (origins_of ts) = omega (arith, one_each ts, a.count) in
     record {
-      corners = b.corners ∙ rw (e, a.corners, flat_append corners-of ts us) (sets-append cs₀ (3 * k₀) (flat_map corners-of ts) (flat_map corners-of us));
+      corners = b.corners ∙ rw (e, a.corners, flat_append corners_of ts us) (sets_append cs₀ (3 * k₀) (flat_map corners_of ts) (flat_map corners_of us));
       origins =
           b.origins ∙ rw (map-append (λ (t : Triangle). t.origin) ts us, a.origins)
-          (ap (λ m. sets (sets os₀ k₀ (origins-of ts)) m (origins-of us)) d ∙ sets-append os₀ k₀ (origins-of ts) (origins-of us));
+          (ap (λ m. sets (sets os₀ k₀ (origins_of ts)) m (origins_of us)) d ∙ sets_append os₀ k₀ (origins_of ts) (origins_of us));
       count = rw length-append (omega (arith, a.count, b.count));
     }
 
 module _ {ts : List Triangle} {cs₀ os₀ cs os : List ℕ} {k : ℕ} where
-  pub laid-long : {k₀ : ℕ} → Laid ts cs₀ os₀ k₀ cs os k → (length cs ≡ length cs₀) × (length os ≡ length os₀)
-  laid-long {k₀} a = (ap length a.corners ∙ length-sets cs₀ (3 * k₀) (flat_map corners-of ts), ap length a.origins ∙ length-sets os₀ k₀ (origins-of ts))
+  pub laid_long : {k₀ : ℕ} → Laid ts cs₀ os₀ k₀ cs os k → (length cs ≡ length cs₀) × (length os ≡ length os₀)
+  laid_long {k₀} a = (ap length a.corners ∙ length-sets cs₀ (3 * k₀) (flat_map corners_of ts), ap length a.origins ∙ length-sets os₀ k₀ (origins_of ts))
 
   -- where there is room, the fronts hold the triangles, and everything behind is as before
-  pub laid-onto : Laid ts cs₀ os₀ 0 cs os k → 3 * k ≤ length cs₀ → k ≤ length os₀ → (cs ≡ onto (flat_map corners-of ts) cs₀) × (os ≡ onto (origins-of ts) os₀)
-  laid-onto a h g =
-      let x = three-each ts in
+  pub laid_onto : Laid ts cs₀ os₀ 0 cs os k → 3 * k ≤ length cs₀ → k ≤ length os₀ → (cs ≡ onto (flat_map corners_of ts) cs₀) × (os ≡ onto (origins_of ts) os₀)
+  laid_onto a h g =
+      let x = three_each ts in
       let y = one_each ts in
       let n = a.count in
-      (a.corners ∙ sets-onto cs₀ (flat_map corners-of ts) (omega arith), a.origins ∙ sets-onto os₀ (origins-of ts) (omega arith))
+      (a.corners ∙ sets_onto cs₀ (flat_map corners_of ts) (omega arith), a.origins ∙ sets_onto os₀ (origins_of ts) (omega arith))

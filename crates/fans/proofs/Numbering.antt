@@ -10,15 +10,15 @@ use lib.ListN.{length, get_or, set}
 use lib.Seq.{get_or-set_same, get_or-set_other}
 use Rattle.list_words.specs.Lists.{keep, nonzero}
 use Rattle.fans.specs.Words.{rank, Follows, Ranked}
-use Rattle.fans.proofs.Ranks.{rank-next}
+use Rattle.fans.proofs.Ranks.{rank_next}
 
 pub record Numbering (inc : List ℤ) (num₀ num : List ℕ) (from many start k i : ℕ) : Type 0 where
   pub few : k ≤ start + i
   pub before : (x : ℕ) → x < from → get_or num x 0 ≡ get_or num₀ x 0
   pub ranked : (t : List ℤ) (slot : ℕ) → Follows t inc slot from many → start ≡ rank t slot → Ranked t num slot from i k
 
-pub numbering-none : (inc : List ℤ) (num : List ℕ) (from many start : ℕ) → Numbering inc num num from many start start 0
-numbering-none inc num from many start =
+pub numbering_none : (inc : List ℤ) (num : List ℕ) (from many start : ℕ) → Numbering inc num num from many start start 0
+numbering_none inc num from many start =
     record {
       few = omega arith;
       before = λ x h. refl;
@@ -34,7 +34,7 @@ module _ {inc : List ℤ} {num₀ num : List ℕ} {from many start k i : ℕ} (g
         ranked = λ t slot f b.
             let p = g.ranked t slot f b in
             let q : slot + (i + 1) ≡ suc (slot + i) = omega arith in
-            let n = rank-next t (slot + i) (omega (arith, f.room)) in
+            let n = rank_next t (slot + i) (omega (arith, f.room)) in
             let m = ap (λ x. length (keep nonzero (x ∷ []))) (f.each i h) in
             record {
               next = omega (arith, p.next, e, m, n) ∙ ap (rank t) (sym q);
@@ -45,13 +45,13 @@ module _ {inc : List ℤ} {num₀ num : List ℕ} {from many start k i : ℕ} (g
             };
       }
 
-  pub numbering-yes : nonzero (get_or inc (from + i) (pos 0)) ≡ true → Numbering inc num₀ (set num (from + i) k) from many start (k + 1) (i + 1)
+  pub numbering_yes : nonzero (get_or inc (from + i) (pos 0)) ≡ true → Numbering inc num₀ (set num (from + i) k) from many start (k + 1) (i + 1)
   unfolding keep
-  numbering-yes y = let e : 1 ≡ length (keep nonzero (get_or inc (from + i) (pos 0) ∷ [])) = rw y in step 1 e (omega arith)
+  numbering_yes y = let e : 1 ≡ length (keep nonzero (get_or inc (from + i) (pos 0) ∷ [])) = rw y in step 1 e (omega arith)
 
-  pub numbering-no : nonzero (get_or inc (from + i) (pos 0)) ≡ false → Numbering inc num₀ (set num (from + i) k) from many start k (i + 1)
+  pub numbering_no : nonzero (get_or inc (from + i) (pos 0)) ≡ false → Numbering inc num₀ (set num (from + i) k) from many start k (i + 1)
   unfolding keep
-  numbering-no y =
+  numbering_no y =
       let e : 0 ≡ length (keep nonzero (get_or inc (from + i) (pos 0) ∷ [])) = rw y in
       let z : k + 0 ≡ k = omega arith in
       rw z at (step 0 e (omega arith))

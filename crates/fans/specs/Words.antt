@@ -4,7 +4,7 @@ use mathlib.Core.List.{List, map, flat_map}
 use Rattle.std.proofs.lemmas.List.Edits.{sets}
 use Rattle.list_words.specs.Lists.{up_to, keep, nonzero}
 use Rattle.solids.specs.Solids.{Half}
-use Rattle.results.specs.Triangles.{Triangle, at-end, corners-of}
+use Rattle.results.specs.Triangles.{Triangle, at_end, corners_of}
 
 -- ---- the number of a slot: how many slots before it are not 0
 
@@ -29,14 +29,14 @@ pub record Ranked (t : List ℤ) (num : List ℕ) (slot from many k : ℕ) : Typ
 -- ---- triangles stored one behind the other
 
 -- the fan from a, whatever a is
-unfoldable pub fan-at : ℕ → ℕ → List Half → List Triangle
-fan-at origin a hs = map (λ (h : Half). record { a = a; p = h.0; q = h.1; origin = origin }) (keep (λ h. not (at-end a h)) hs)
+unfoldable pub fan_at : ℕ → ℕ → List Half → List Triangle
+fan_at origin a hs = map (λ (h : Half). record { a = a; p = h.0; q = h.1; origin = origin }) (keep (λ h. not (at_end a h)) hs)
 
-abbrev pub origins-of : List Triangle → List ℕ
-origins-of ts = map (λ (t : Triangle). t.origin) ts
+abbrev pub origins_of : List Triangle → List ℕ
+origins_of ts = map (λ (t : Triangle). t.origin) ts
 
 -- the triangles ts are stored from the k₀-th on, as far as there is room (`sets` does nothing beyond a list's end); k is the next one's number
 pub record Laid (ts : List Triangle) (cs₀ os₀ : List ℕ) (k₀ : ℕ) (cs os : List ℕ) (k : ℕ) : Type 0 where
-  pub corners : cs ≡ sets cs₀ (3 * k₀) (flat_map corners-of ts)
-  pub origins : os ≡ sets os₀ k₀ (origins-of ts)
+  pub corners : cs ≡ sets cs₀ (3 * k₀) (flat_map corners_of ts)
+  pub origins : os ≡ sets os₀ k₀ (origins_of ts)
   pub count : k ≡ k₀ + length ts

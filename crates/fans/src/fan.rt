@@ -4,7 +4,7 @@ ghost use Rattle.std.specs.Prelude.{◌≡◌, [], ◌∷◌, ◌+◌, ◌*◌, 
 ghost use Rattle.list_words.specs.Lists.{least};
 ghost use Rattle.results.specs.Triangles.{fan};
 ghost use Rattle.joined_ends.specs.Words.{firsts};
-ghost use Rattle.fans.specs.Words.{fan-at, Laid};
+ghost use Rattle.fans.specs.Words.{fan_at, Laid};
 
 fn put_triangle(
     a: u32,
@@ -16,7 +16,7 @@ fn put_triangle(
     k: usize,
 ) -> usize
     requires { k < 4294967296 }
-    ensures laid { Laid (fan-at origin a ((p, q) ∷ [])) corners.old origins.old k corners.new origins.new result }
+    ensures laid { Laid (fan_at origin a ((p, q) ∷ [])) corners.old origins.old k corners.new origins.new result }
     ensures small { result ≤ k + 1 }
 {
     if a == p {

@@ -45,14 +45,14 @@ pub fn bad_point(blanks: bool, v: Point) -> bool
 
 // The number of that check.
 fn bad_number(blanks: bool) -> u32
-    ensures { result ≡ Sw.bad-number blanks }
+    ensures { result ≡ Sw.bad_number blanks }
 {
     if blanks { 3 } else { 4 }
 }
 
 // Check 3 or check 4, vertex by vertex: the first that is bad.
 pub fn check_points(blanks: bool, points: &[f64]) -> Verdict
-    ensures { result ≡ at_each (length points.now / 3) (Sw.check-vertex blanks (So.solid points.now [])) }
+    ensures { result ≡ at_each (length points.now / 3) (Sw.check_vertex blanks (So.solid points.now [])) }
 {
     let mut i = 0;
     while i < points.len() / 3 {
@@ -71,7 +71,7 @@ fn wide(x: u32) -> usize
 }
 
 fn too_high(n: usize, p: u32, q: u32, r: u32) -> bool
-    ensures { result ≡ Ad.too-high n p q r }
+    ensures { result ≡ Ad.too_high n p q r }
 {
     if n <= wide(p) {
         true
@@ -83,7 +83,7 @@ fn too_high(n: usize, p: u32, q: u32, r: u32) -> bool
 }
 
 fn named_twice(p: u32, q: u32, r: u32) -> bool
-    ensures { result ≡ Ad.named-twice p q r }
+    ensures { result ≡ Ad.named_twice p q r }
 {
     if p == q {
         true
@@ -97,7 +97,7 @@ fn named_twice(p: u32, q: u32, r: u32) -> bool
 // Checks 10 and 11 of one facet, in this order.
 fn check_facet(points: &[f64], corners: &[u32], f: usize) -> Verdict
     requires { f < length corners.now / 3 }
-    ensures { result ≡ Ad.check-facet (So.lent points.entry corners.entry) f }
+    ensures { result ≡ Ad.check_facet (So.lent points.entry corners.entry) f }
 {
     let p = corners[3 * f];
     let q = corners[3 * f + 1];
@@ -113,7 +113,7 @@ fn check_facet(points: &[f64], corners: &[u32], f: usize) -> Verdict
 
 // Facet by facet: "the lower facet number wins".
 pub fn check_corners(points: &[f64], corners: &[u32]) -> Verdict
-    ensures { result ≡ Ad.check-corners (So.lent points.entry corners.entry) }
+    ensures { result ≡ Ad.check_corners (So.lent points.entry corners.entry) }
 {
     let mut f = 0;
     while f < corners.len() / 3 {

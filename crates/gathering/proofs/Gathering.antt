@@ -6,7 +6,7 @@ use Prim.Native.Nat.{ℕ, ◌+◌, ◌≤◌}
 use native.Mathlib.Nat.{le_refl}
 use lib.IntN.{pos, nat_abs, ◌+ℤ◌}
 use Rattle.list_words.specs.Lists.{sum_of, nonzero}
-use Rattle.list_words.proofs.Integers.{Bnd, bnd-add}
+use Rattle.list_words.proofs.Integers.{Bnd, bnd_add}
 use Rattle.points.specs.declared.Point.{Point}
 use Rattle.points.specs.declared.Axis.{Axis}
 use Rattle.points.specs.Points.{placed}
@@ -15,7 +15,7 @@ use Rattle.crossings.specs.declared.Crossing.{Crossing}
 use Rattle.crossings.specs.declared.Crossing.TheVariants.{Miss, Cross}
 use Rattle.gathering.specs.declared.Gather.{Gather}
 use Rattle.crossings.specs.Crossings.{count, points, S, against, lies, first, crossing, paired, half}
-use Rattle.crossings.proofs.Sizes.{S-size}
+use Rattle.crossings.proofs.Sizes.{S_size}
 
 -- what `Gather::with` and `Gather::finish` answer
 abbrev pub added : Crossing → Gather → Gather
@@ -35,14 +35,14 @@ unfoldable pub gathered : Axis → List Crossing → Gather
 gathered k [] = record { by = k; sum = pos 0; plus = Miss; minus = Miss }
 gathered k (c ∷ cs) = added c (gathered k cs)
 
-gathered-is : (k : Axis) (cs : List Crossing) → gathered k cs ≡ record { by = k; sum = sum_of (S k) cs; plus = first k true cs; minus = first k false cs }
+gathered_is : (k : Axis) (cs : List Crossing) → gathered k cs ≡ record { by = k; sum = sum_of (S k) cs; plus = first k true cs; minus = first k false cs }
 unfolding gathered sum_of first
-gathered-is k [] = refl
-gathered-is k (c ∷ cs) = ap (added c) (gathered-is k cs)
+gathered_is k [] = refl
+gathered_is k (c ∷ cs) = ap (added c) (gathered_is k cs)
 
-pub gathered-paired : (k : Axis) (cs : List Crossing) → finished (gathered k cs) ≡ paired k cs
+pub gathered_paired : (k : Axis) (cs : List Crossing) → finished (gathered k cs) ≡ paired k cs
 unfolding paired crossing
-gathered-paired k cs = ap finished (gathered-is k cs)
+gathered_paired k cs = ap finished (gathered_is k cs)
 
 -- ---- a half-edge by its edge, as `edge_of` and `Crossing::signed` give it
 abbrev pub edge_at : Bool → Point → Point → Edge
@@ -52,9 +52,9 @@ pub half_at : (g : Edge → Crossing) (w : Bool) (p q : Point) → cond w (g (ed
 half_at g true p q = refl
 half_at g false p q = refl
 
-half-against : (g : Edge → Crossing) (w : Bool) (p q : Point) → against (half g w p q) ≡ half (λ h. against (g h)) w p q
-half-against g true p q = refl
-half-against g false p q = refl
+half_against : (g : Edge → Crossing) (w : Bool) (p q : Point) → against (half g w p q) ≡ half (λ h. against (g h)) w p q
+half_against g true p q = refl
+half_against g false p q = refl
 
 -- ---- the gathering call by call: g has gathered cs, by k
 pub record Gathered (k : Axis) (cs : List Crossing) (g : Gather) : Type 0 where
@@ -70,23 +70,23 @@ module _ {k : Axis} where
     unfolding gathered
     one_more e f = record { is = f ∙ ap₂ added e i.is }
 
-    pub half-more : (x : Edge → Crossing) (w : Bool) (p q : Point) {c : Crossing} → c ≡ half x w p q → r ≡ added c g → Gathered k (half x w p q ∷ cs) r
-    half-more x w p q e f = one_more e f
+    pub half_more : (x : Edge → Crossing) (w : Bool) (p q : Point) {c : Crossing} → c ≡ half x w p q → r ≡ added c g → Gathered k (half x w p q ∷ cs) r
+    half_more x w p q e f = one_more e f
 
     -- with a minus sign
     pub one_less : {b c d : Crossing} → c ≡ d → b ≡ against c → r ≡ added b g → Gathered k (against d ∷ cs) r
     one_less e s f = one_more (s ∙ ap against e) f
 
-    pub half-less : (x : Edge → Crossing) (w : Bool) (p q : Point) {b c : Crossing} → c ≡ half x w p q → b ≡ against c → r ≡ added b g
+    pub half_less : (x : Edge → Crossing) (w : Bool) (p q : Point) {b c : Crossing} → c ≡ half x w p q → b ≡ against c → r ≡ added b g
         → Gathered k (half (λ h. against (x h)) w p q ∷ cs) r
-    half-less x w p q e s f = one_more (s ∙ ap against e ∙ half-against x w p q) f
+    half_less x w p q e s f = one_more (s ∙ ap against e ∙ half_against x w p q) f
 
   pub all_of : {cs : List Crossing} {g : Gather} {r : Crossing} → Gathered k cs g → r ≡ finished g → r ≡ paired k cs
-  all_of {cs} i f = f ∙ ap finished i.is ∙ gathered-paired k cs
+  all_of {cs} i f = f ∙ ap finished i.is ∙ gathered_paired k cs
 
 -- ---- a contract's two clauses from its first
 pub sized : {n : ℕ} {r c : Crossing} → r ≡ c → Bnd n (count c) → (r ≡ c) × Bnd n (count r)
 sized e h = (e, rw e h)
 
-pub added-sized : (c : Crossing) (g : Gather) {r : Gather} → r ≡ added c g → (r ≡ added c g) × (nat_abs r.sum ≤ nat_abs (count c) + nat_abs g.sum)
-added-sized c g e = (e, rw e (bnd-add (nat_abs (count c)) (nat_abs g.sum) (S g.by c) g.sum (S-size g.by (nat_abs (count c)) c (le_refl _)) (le_refl _)))
+pub added_sized : (c : Crossing) (g : Gather) {r : Gather} → r ≡ added c g → (r ≡ added c g) × (nat_abs r.sum ≤ nat_abs (count c) + nat_abs g.sum)
+added_sized c g e = (e, rw e (bnd_add (nat_abs (count c)) (nat_abs g.sum) (S g.by c) g.sum (S_size g.by (nat_abs (count c)) c (le_refl _)) (le_refl _)))

@@ -31,7 +31,7 @@ fn put_half(p: u32, q: u32, numbers: &[u16; 16384], list: &mut [u32], at: usize)
 // The three half-edges of facet f.
 fn put_facet(corners: &[u32], f: usize, numbers: &[u16; 16384], list: &mut [u32], at: usize)
     requires { Sw.Low corners.now × (f < length corners.now / 3) × (at + 9 ≤ length list.old) }
-    ensures { list.new ≡ sets list.old at (He.threes numbers.now (So.facet-half-edges (So.solid [] corners.now) f)) }
+    ensures { list.new ≡ sets list.old at (He.threes numbers.now (So.facet_half_edges (So.solid [] corners.now) f)) }
 {
     let p = corners[3 * f];
     let q = corners[3 * f + 1];
@@ -44,7 +44,7 @@ fn put_facet(corners: &[u32], f: usize, numbers: &[u16; 16384], list: &mut [u32]
 // All half-edges, behind the first `at` numbers of the list; what stands elsewhere stays.
 pub fn put_halves(corners: &[u32], numbers: &[u16; 16384], list: &mut [u32], at: usize)
     requires { Sw.Low corners.now × (at + 9 * (length corners.now / 3) ≤ length list.old) }
-    ensures { list.new ≡ sets list.old at (He.threes numbers.now (So.half-edges (So.solid [] corners.now))) }
+    ensures { list.new ≡ sets list.old at (He.threes numbers.now (So.half_edges (So.solid [] corners.now))) }
 {
     let mut f = 0;
     while f < corners.len() / 3 {

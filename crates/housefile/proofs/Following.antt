@@ -9,38 +9,38 @@ use Rattle.list_words.proofs.Sums.{All}
 use Rattle.numbers.specs.Numbers.{Byte}
 use Rattle.housefile.specs.declared.Record.{Record}
 use Rattle.housefile.specs.Records.{size, decoded, encoded}
-use Rattle.housefile.proofs.Records.{Storable, Known, Present, size-within, decoded-own, length-encoded, behind-encoded, decoded-encoded, encoded-decoded}
+use Rattle.housefile.proofs.Records.{Storable, Known, Present, size_within, decoded_own, length_encoded, behind_encoded, decoded_encoded, encoded_decoded}
 
 -- ---- a record that was read, and u bytes behind it
 module _ (bs : List ℕ) (r : Record) (e : decoded bs ≡ r) (u : ℕ) where
   pub reach : u ≤ length (drop (size r) bs) → size r + u ≤ length bs
-  reach h = let s = size-within bs r e in let l = length-drop (size r) bs in omega arith
+  reach h = let s = size_within bs r e in let l = length-drop (size r) bs in omega arith
 
   -- if the u bytes are l, written again, then so are those of the record and they
-  pub written-again : All Byte bs → Present r → (l : List ℕ) → take u (drop (size r) bs) ≡ l → take (size r + u) bs ≡ encoded r ++ l
-  written-again all p l t = take-add (size r) u bs ∙ ap₂ ◌++◌ (encoded-decoded bs all r e p) t
+  pub written_again : All Byte bs → Present r → (l : List ℕ) → take u (drop (size r) bs) ≡ l → take (size r + u) bs ≡ encoded r ++ l
+  written_again all p l t = take-add (size r) u bs ∙ ap₂ ◌++◌ (encoded_decoded bs all r e p) t
 
   -- with anything else behind those bytes, the same record is read, and then the same u bytes
   module _ (rest : List ℕ) where
     split : take (size r + u) bs ++ rest ≡ take (size r) bs ++ (take u (drop (size r) bs) ++ rest)
     split = rw take-add (append_assoc (take (size r) bs) (take u (drop (size r) bs)) rest)
 
-    pub record-alone : Known r → decoded (take (size r + u) bs ++ rest) ≡ r
-    record-alone k = ap decoded split ∙ decoded-own bs r k e (take u (drop (size r) bs) ++ rest)
+    pub record_alone : Known r → decoded (take (size r + u) bs ++ rest) ≡ r
+    record_alone k = ap decoded split ∙ decoded_own bs r k e (take u (drop (size r) bs) ++ rest)
 
-    pub behind-alone : drop (size r) (take (size r + u) bs ++ rest) ≡ take u (drop (size r) bs) ++ rest
-    behind-alone =
+    pub behind_alone : drop (size r) (take (size r + u) bs ++ rest) ≡ take u (drop (size r) bs) ++ rest
+    behind_alone =
         ap (drop (size r)) split
-        ∙ drop_at (take (size r) bs) (take u (drop (size r) bs) ++ rest) (size r) (length-take-le (size r) bs (size-within bs r e))
+        ∙ drop_at (take (size r) bs) (take u (drop (size r) bs) ++ rest) (size r) (length-take-le (size r) bs (size_within bs r e))
 
 -- ---- a record written in front of l, with anything behind
 module _ (r : Record) (l : List ℕ) where
-  pub length-put : length (encoded r ++ l) ≡ size r + length l
-  length-put = length-append (encoded r) l ∙ ap (λ n. n + length l) (length-encoded r)
+  pub length_put : length (encoded r ++ l) ≡ size r + length l
+  length_put = length-append (encoded r) l ∙ ap (λ n. n + length l) (length_encoded r)
 
   module _ (rest : List ℕ) where
-    pub put-decoded : Storable r → decoded ((encoded r ++ l) ++ rest) ≡ r
-    put-decoded h = ap decoded (append_assoc (encoded r) l rest) ∙ decoded-encoded r h (l ++ rest)
+    pub put_decoded : Storable r → decoded ((encoded r ++ l) ++ rest) ≡ r
+    put_decoded h = ap decoded (append_assoc (encoded r) l rest) ∙ decoded_encoded r h (l ++ rest)
 
-    pub put-behind : drop (size r) ((encoded r ++ l) ++ rest) ≡ l ++ rest
-    put-behind = ap (drop (size r)) (append_assoc (encoded r) l rest) ∙ behind-encoded r (l ++ rest)
+    pub put_behind : drop (size r) ((encoded r ++ l) ++ rest) ≡ l ++ rest
+    put_behind = ap (drop (size r)) (append_assoc (encoded r) l rest) ∙ behind_encoded r (l ++ rest)

@@ -13,11 +13,11 @@ use Rattle.housefile.specs.declared.Record.{Record}
 use Rattle.housefile.specs.declared.Record.TheVariants.{Vx, Fc, En, Fault}
 use Rattle.housefile.specs.Records.{size, decoded}
 use Rattle.housefile.specs.Reader.{Layout, fault, laid, after, records}
-use Rattle.housefile.proofs.Records.{size-within}
+use Rattle.housefile.proofs.Records.{size_within}
 
 -- the layout of the bytes from some record on; `layout` is this from the first record on
-abbrev pub layout-from : Bool → List ℕ → Layout
-layout-from facets-begun bs = records (length bs) facets-begun (decoded bs) bs
+abbrev pub layout_from : Bool → List ℕ → Layout
+layout_from facets_begun bs = records (length bs) facets_begun (decoded bs) bs
 
 -- ---- any bound that is no less than the number of bytes serves
 shorter : (n k : ℕ) (bs : List ℕ) → suc k ≤ length bs → length bs ≤ suc n → length (drop (suc k) bs) ≤ n
@@ -37,54 +37,54 @@ unfolding records
 late zero bs v = refl
 late (suc n) bs v = refl
 
-pub any-bound : (n m : ℕ) (b : Bool) (bs : List ℕ) (r : Record) → decoded bs ≡ r → length bs ≤ n → length bs ≤ m → records n b r bs ≡ records m b r bs
+pub any_bound : (n m : ℕ) (b : Bool) (bs : List ℕ) (r : Record) → decoded bs ≡ r → length bs ≤ n → length bs ≤ m → records n b r bs ≡ records m b r bs
 unfolding records
-any-bound zero m b bs r e h l = sym (no_bytes m b bs r (size-within bs r e) h)
-any-bound (suc n) zero b bs r e h l = no_bytes (suc n) b bs r (size-within bs r e) l
-any-bound (suc n) (suc m) b bs En e h l = refl
-any-bound (suc n) (suc m) b bs Fault e h l = refl
-any-bound (suc n) (suc m) true bs (Vx v) e h l = late (suc n) bs v ∙ sym (late (suc m) bs v)
-any-bound (suc n) (suc m) false bs (Vx v) e h l =
-    let s = size-within bs (Vx v) e in
-    ap (after 26 (coordinates v) []) (any-bound n m false (drop 26 bs) (decoded (drop 26 bs)) refl (shorter n 25 bs s h) (shorter m 25 bs s l))
-any-bound (suc n) (suc m) b bs (Fc p q r) e h l =
-    let s = size-within bs (Fc p q r) e in
-    ap (after 14 [] (p ∷ q ∷ r ∷ [])) (any-bound n m true (drop 14 bs) (decoded (drop 14 bs)) refl (shorter n 13 bs s h) (shorter m 13 bs s l))
+any_bound zero m b bs r e h l = sym (no_bytes m b bs r (size_within bs r e) h)
+any_bound (suc n) zero b bs r e h l = no_bytes (suc n) b bs r (size_within bs r e) l
+any_bound (suc n) (suc m) b bs En e h l = refl
+any_bound (suc n) (suc m) b bs Fault e h l = refl
+any_bound (suc n) (suc m) true bs (Vx v) e h l = late (suc n) bs v ∙ sym (late (suc m) bs v)
+any_bound (suc n) (suc m) false bs (Vx v) e h l =
+    let s = size_within bs (Vx v) e in
+    ap (after 26 (coordinates v) []) (any_bound n m false (drop 26 bs) (decoded (drop 26 bs)) refl (shorter n 25 bs s h) (shorter m 25 bs s l))
+any_bound (suc n) (suc m) b bs (Fc p q r) e h l =
+    let s = size_within bs (Fc p q r) e in
+    ap (after 14 [] (p ∷ q ∷ r ∷ [])) (any_bound n m true (drop 14 bs) (decoded (drop 14 bs)) refl (shorter n 13 bs s h) (shorter m 13 bs s l))
 
 -- ---- the layout by the record that the bytes begin with
 module _ (bs : List ℕ) where
-  once : (b : Bool) (r : Record) → decoded bs ≡ r → layout-from b bs ≡ records (suc (length bs)) b r bs
-  once b r e = ap (λ r. records (length bs) b r bs) e ∙ any-bound (length bs) (suc (length bs)) b bs r e (omega arith) (omega arith)
+  once : (b : Bool) (r : Record) → decoded bs ≡ r → layout_from b bs ≡ records (suc (length bs)) b r bs
+  once b r e = ap (λ r. records (length bs) b r bs) e ∙ any_bound (length bs) (suc (length bs)) b bs r e (omega arith) (omega arith)
 
-  behind : (b : Bool) (k : ℕ) → records (length bs) b (decoded (drop k bs)) (drop k bs) ≡ layout-from b (drop k bs)
-  behind b k = any-bound (length bs) (length (drop k bs)) b (drop k bs) (decoded (drop k bs)) refl (rw length-drop (omega arith)) (omega arith)
+  behind : (b : Bool) (k : ℕ) → records (length bs) b (decoded (drop k bs)) (drop k bs) ≡ layout_from b (drop k bs)
+  behind b k = any_bound (length bs) (length (drop k bs)) b (drop k bs) (decoded (drop k bs)) refl (rw length-drop (omega arith)) (omega arith)
 
-  pub at-end : (b : Bool) → decoded bs ≡ En → layout-from b bs ≡ laid 2 [] []
+  pub at_end : (b : Bool) → decoded bs ≡ En → layout_from b bs ≡ laid 2 [] []
   unfolding records
-  at-end b e = once b En e
+  at_end b e = once b En e
 
-  pub at-fault : (b : Bool) → decoded bs ≡ Fault → layout-from b bs ≡ fault
+  pub at_fault : (b : Bool) → decoded bs ≡ Fault → layout_from b bs ≡ fault
   unfolding records
-  at-fault b e = once b Fault e
+  at_fault b e = once b Fault e
 
-  pub late-vertex : (v : Point) → decoded bs ≡ Vx v → layout-from true bs ≡ fault
-  late-vertex v e = ap (λ r. records (length bs) true r bs) e ∙ late (length bs) bs v
+  pub late_vertex : (v : Point) → decoded bs ≡ Vx v → layout_from true bs ≡ fault
+  late_vertex v e = ap (λ r. records (length bs) true r bs) e ∙ late (length bs) bs v
 
-  pub at-vertex : (v : Point) → decoded bs ≡ Vx v → layout-from false bs ≡ after 26 (coordinates v) [] (layout-from false (drop 26 bs))
+  pub at_vertex : (v : Point) → decoded bs ≡ Vx v → layout_from false bs ≡ after 26 (coordinates v) [] (layout_from false (drop 26 bs))
   unfolding records
-  at-vertex v e = once false (Vx v) e ∙ ap (after 26 (coordinates v) []) (behind false 26)
+  at_vertex v e = once false (Vx v) e ∙ ap (after 26 (coordinates v) []) (behind false 26)
 
-  pub at-facet : (b : Bool) (p q r : ℕ) → decoded bs ≡ Fc p q r → layout-from b bs ≡ after 14 [] (p ∷ q ∷ r ∷ []) (layout-from true (drop 14 bs))
+  pub at_facet : (b : Bool) (p q r : ℕ) → decoded bs ≡ Fc p q r → layout_from b bs ≡ after 14 [] (p ∷ q ∷ r ∷ []) (layout_from true (drop 14 bs))
   unfolding records
-  at-facet b p q r e = once b (Fc p q r) e ∙ ap (after 14 [] (p ∷ q ∷ r ∷ [])) (behind true 14)
+  at_facet b p q r e = once b (Fc p q r) e ∙ ap (after 14 [] (p ∷ q ∷ r ∷ [])) (behind true 14)
 
 -- ---- records that were walked over, with the layout of what is left
 pub after_none : (l : Layout) → after 0 [] [] l ≡ l
 after_none fault = refl
 after_none (laid u xs cs) = ap (λ n. laid n xs cs) (zero-add u)
 
-pub after-after : (m n : ℕ) (xs ys : List Float) (cs ds : List ℕ) (l : Layout)
+pub after_after : (m n : ℕ) (xs ys : List Float) (cs ds : List ℕ) (l : Layout)
     → after m xs cs (after n ys ds l) ≡ after (m + n) (xs ++ ys) (cs ++ ds) l
-after-after m n xs ys cs ds fault = refl
-after-after m n xs ys cs ds (laid u zs es) =
+after_after m n xs ys cs ds fault = refl
+after_after m n xs ys cs ds (laid u zs es) =
     sym (λ i. laid (add_assoc m n u i) (append_assoc xs ys zs i) (append_assoc cs ds es i))

@@ -5,9 +5,9 @@ use Rattle.points.specs.Points.{coordinates}
 use Rattle.solids.specs.declared.Answer.{Answer}
 use Rattle.solids.specs.declared.Verdict.{Verdict}
 use Rattle.solids.specs.declared.Verdict.TheVariants.{Accepted, Refused}
-use Rattle.solids.specs.Refusals.{answer-of, no-refusal, given, in_order}
+use Rattle.solids.specs.Refusals.{answer_of, no_refusal, given, in_order}
 use Rattle.solids.specs.Solids.{Solid, vertices, facets}
-use Rattle.solids.specs.Admission.{check-sizes, check-blanks, check-limit, check-corners, check-closure}
+use Rattle.solids.specs.Admission.{check_sizes, check_blanks, check_limit, check_corners, check_closure}
 use Rattle.housefile.specs.declared.Read.{Read}
 use Rattle.housefile.specs.declared.Record.{Record}
 use Rattle.housefile.specs.declared.Record.TheVariants.{Vx, Fc, En, Fault}
@@ -27,14 +27,14 @@ after n xs cs (laid used ys ds) = laid (n + used) (xs ++ ys) (cs ++ ds)
 -- The layout of bs, which begins with the record r: "each record begins where the one before it ended"; "All VX come before all FC", so a VX is a fault
 -- once an FC came. The first number bounds how many records are looked at: a file has fewer records than bytes.
 unfoldable pub records : ℕ → Bool → Record → List ℕ → Layout
-records zero facets-begun r bs = fault
-records (suc n) facets-begun En bs = laid (size En) [] []
-records (suc n) facets-begun Fault bs = fault
+records zero facets_begun r bs = fault
+records (suc n) facets_begun En bs = laid (size En) [] []
+records (suc n) facets_begun Fault bs = fault
 records (suc n) true (Vx v) bs = fault
 records (suc n) false (Vx v) bs =
     let rest = drop (size (Vx v)) bs in
     after (size (Vx v)) (coordinates v) [] (records n false (decoded rest) rest)
-records (suc n) facets-begun (Fc p q r) bs =
+records (suc n) facets_begun (Fc p q r) bs =
     let rest = drop (size (Fc p q r)) bs in
     after (size (Fc p q r)) [] (p ∷ q ∷ r ∷ []) (records n true (decoded rest) rest)
 
@@ -61,7 +61,7 @@ unread a ps cs = record { answer = a; vertices = 0; facets = 0; used = 0; points
 
 abbrev pub reading : Verdict → ℕ → Solid → List Float → List ℕ → Reading
 reading Accepted used s ps cs =
-    record { answer = no-refusal; vertices = vertices s; facets = facets s; used = used; points = onto s.points ps; corners = onto s.corners cs }
+    record { answer = no_refusal; vertices = vertices s; facets = facets s; used = used; points = onto s.points ps; corners = onto s.corners cs }
 reading (Refused a) used s ps cs = unread a ps cs
 
 -- 8: "a lent list is too short for the answer"
@@ -69,16 +69,16 @@ unfoldable pub too_short : List Float → List ℕ → Solid → Bool
 too_short ps cs s = ltb (length ps) (length s.points) || ltb (length cs) (length s.corners)
 
 -- "Reader's order: 9, then 2, 8, 3 to 6."
-unfoldable pub read-solid : Solid → List Float → List ℕ → Verdict
-read-solid s ps cs =
+unfoldable pub read_solid : Solid → List Float → List ℕ → Verdict
+read_solid s ps cs =
     in_order
-    (check-sizes s ∷ given (answer-of 8) (too_short ps cs s) ∷ check-blanks s ∷ check-limit s ∷ check-corners s ∷ check-closure s ∷ [])
+    (check_sizes s ∷ given (answer_of 8) (too_short ps cs s) ∷ check_blanks s ∷ check_limit s ∷ check_corners s ∷ check_closure s ∷ [])
 
 abbrev pub by_layout : Layout → List Float → List ℕ → Reading
-by_layout fault ps cs = unread (answer-of 9) ps cs
+by_layout fault ps cs = unread (answer_of 9) ps cs
 by_layout (laid used xs ds) ps cs =
     let s : Solid = record { points = xs; corners = ds } in
-    reading (read-solid s ps cs) used s ps cs
+    reading (read_solid s ps cs) used s ps cs
 
 -- the call: a file's bytes and the two lent lists
 unfoldable pub read : List ℕ → List Float → List ℕ → Reading

@@ -5,7 +5,7 @@ use Rattle.list_words.specs.Lists.{up_to, onto}
 use Rattle.solids.specs.declared.Answer.{Answer}
 use Rattle.solids.specs.declared.Verdict.{Verdict}
 use Rattle.solids.specs.declared.Verdict.TheVariants.{Accepted, Refused}
-use Rattle.solids.specs.Refusals.{answer-of, no-refusal, given, in_order}
+use Rattle.solids.specs.Refusals.{answer_of, no_refusal, given, in_order}
 use Rattle.solids.specs.Solids.{Solid, vertices, facets, vertex, corner}
 use Rattle.solids.specs.Admission.{admission}
 use Rattle.housefile.specs.declared.Written.{Written}
@@ -31,12 +31,12 @@ abbrev pub unwritten : Answer → List ℕ → Writing
 unwritten a old = record { answer = a; used = 0; bytes = old }
 
 abbrev pub writing : Verdict → List ℕ → List ℕ → Writing
-writing Accepted new old = record { answer = no-refusal; used = length new; bytes = onto new old }
+writing Accepted new old = record { answer = no_refusal; used = length new; bytes = onto new old }
 writing (Refused a) new old = unwritten a old
 
 -- "The writer checks 1 to 6, then 8."
 unfoldable pub write : Solid → List ℕ → Writing
-write s lent = let new = file s in writing (in_order (admission s ∷ given (answer-of 8) (ltb (length lent) (length new)) ∷ [])) new lent
+write s lent = let new = file s in writing (in_order (admission s ∷ given (answer_of 8) (ltb (length lent) (length new)) ∷ [])) new lent
 
 -- what the call promises of its answer and of the lent bytes as they then are
 abbrev pub WriteFile : Solid → List ℕ → Written × List ℕ → Type 0

@@ -9,18 +9,18 @@ use borrow.Author.Tests.{lt-ltb, le-ltb}
 use Rattle.housefile_reader.specs.Words.{kept}
 
 module _ {A : Type 0} (room i : ℕ) where
-  pub kept-within : (new l : List A) → i < room → sets l (3 * i) new ≡ kept room i new l
+  pub kept_within : (new l : List A) → i < room → sets l (3 * i) new ≡ kept room i new l
   unfolding kept
-  kept-within new l h = rw (lt-ltb i room h)
+  kept_within new l h = rw (lt-ltb i room h)
 
-  pub kept-beyond : (new l : List A) → room ≤ i → l ≡ kept room i new l
+  pub kept_beyond : (new l : List A) → room ≤ i → l ≡ kept room i new l
   unfolding kept
-  kept-beyond new l h = rw (le-ltb i room h)
+  kept_beyond new l h = rw (le-ltb i room h)
 
-  pub kept-nothing : (l : List A) → l ≡ kept room i [] l
+  pub kept_nothing : (l : List A) → l ≡ kept room i [] l
   unfolding kept
-  kept-nothing l = by-room (ltb i room)
+  kept_nothing l = by_room (ltb i room)
     where
-      by-room : (b : Bool) → l ≡ cond b l l
-      by-room true = refl
-      by-room false = refl
+      by_room : (b : Bool) → l ≡ cond b l l
+      by_room true = refl
+      by_room false = refl

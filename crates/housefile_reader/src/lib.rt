@@ -76,8 +76,8 @@ fn keep_facet(corners: &mut [u32; 768], f: usize, p: u32, q: u32, r: u32)
 
 // What a record says, kept where the walk stands.
 fn keep(found: Record, w: Walk, points: &mut [f64; 384], corners: &mut [u32; 768])
-    ensures points_after { points.new ≡ Hr.kept 128 w.vertices (Hr.points-of found) points.old }
-    ensures corners_after { corners.new ≡ Hr.kept 256 w.facets (Hr.corners-of found) corners.old }
+    ensures points_after { points.new ≡ Hr.kept 128 w.vertices (Hr.points_of found) points.old }
+    ensures corners_after { corners.new ≡ Hr.kept 256 w.facets (Hr.corners_of found) corners.old }
 {
     match found {
         Record::Vx(v) => keep_vertex(points, w.vertices, v),
@@ -151,7 +151,7 @@ fn hand_over(
     corners: &mut [u32],
 ) -> Read
     requires { (length from_points.now ≤ length points.old) × (length from_corners.now ≤ length corners.old) }
-    ensures { Re.outcome result points.new corners.new ≡ Hr.handed-over (So.lent from_points.entry from_corners.entry) used points.old corners.old }
+    ensures { Re.outcome result points.new corners.new ≡ Hr.handed_over (So.lent from_points.entry from_corners.entry) used points.old corners.old }
 {
     let said = admission::admit(from_points, from_corners);
     if let Verdict::Refused(n) = said {

@@ -13,13 +13,13 @@ use Rattle.points.specs.Points.{coordinates}
 use Rattle.solids.specs.Solids.{solid, vertex}
 
 absent : (p : Float → Bool) (l : List Float) (i : ℕ) (d : Float) → any p l ≡ false → i < length l → p (get_or l i d) ≡ false
-absent p l i d e h = by-test (p (get_or l i d)) refl
+absent p l i d e h = by_test (p (get_or l i d)) refl
   where
-    by-test : (b : Bool) → p (get_or l i d) ≡ b → p (get_or l i d) ≡ false
-    by-test true t = absurd (never (any p l) (any_found p l i d h t) e)
-    by-test false t = t
+    by_test : (b : Bool) → p (get_or l i d) ≡ b → p (get_or l i d) ≡ false
+    by_test true t = absurd (never (any p l) (any_found p l i d h t) e)
+    by_test false t = t
 
-pub vertex-present : (ps : List Float) (i : ℕ) → any is_nan ps ≡ false → i < length ps / 3 → any is_nan (coordinates (vertex (solid ps []) i)) ≡ false
+pub vertex_present : (ps : List Float) (i : ℕ) → any is_nan ps ≡ false → i < length ps / 3 → any is_nan (coordinates (vertex (solid ps []) i)) ≡ false
 unfolding any
-vertex-present ps i e h =
+vertex_present ps i e h =
     rw (absent is_nan ps (3 * i + 0) _ e (omega arith), absent is_nan ps (3 * i + 1) _ e (omega arith), absent is_nan ps (3 * i + 2) _ e (omega arith))

@@ -6,8 +6,8 @@ use Rattle.solids.specs.Solids.{Solid, vertices, facets, vertex, corner}
 use Rattle.housefile.specs.declared.Record.TheVariants.{Vx, Fc}
 use Rattle.housefile.specs.Records.{encoded}
 
-unfoldable pub vertex-part : Solid → List ℕ
-vertex-part s = flat_map (λ i. encoded (Vx (vertex s i))) (up_to (vertices s))
+unfoldable pub vertex_part : Solid → List ℕ
+vertex_part s = flat_map (λ i. encoded (Vx (vertex s i))) (up_to (vertices s))
 
-unfoldable pub facet-part : Solid → List ℕ
-facet-part s = flat_map (λ f. encoded (Fc (corner s f 0) (corner s f 1) (corner s f 2))) (up_to (facets s))
+unfoldable pub facet_part : Solid → List ℕ
+facet_part s = flat_map (λ f. encoded (Fc (corner s f 0) (corner s f 1) (corner s f 2))) (up_to (facets s))

@@ -12,7 +12,7 @@ use solids::{Answer, Verdict};
 
 fn put_vertices(points: &[f64], bytes: &mut [u8])
     requires { (26 * (length points.now / 3) ≤ length bytes.old) × (any is_nan points.now ≡ false) }
-    ensures { bytes.new ≡ sets bytes.old 0 (Hw.vertex-part (So.solid points.now [])) }
+    ensures { bytes.new ≡ sets bytes.old 0 (Hw.vertex_part (So.solid points.now [])) }
 {
     let mut i = 0;
     while i < points.len() / 3 {
@@ -23,7 +23,7 @@ fn put_vertices(points: &[f64], bytes: &mut [u8])
 
 fn put_facets(corners: &[u32], bytes: &mut [u8], at: usize)
     requires { at + 14 * (length corners.now / 3) ≤ length bytes.old }
-    ensures { bytes.new ≡ sets bytes.old at (Hw.facet-part (So.solid [] corners.now)) }
+    ensures { bytes.new ≡ sets bytes.old at (Hw.facet_part (So.solid [] corners.now)) }
 {
     let mut f = 0;
     while f < corners.len() / 3 {

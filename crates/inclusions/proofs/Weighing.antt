@@ -15,12 +15,12 @@ use Rattle.inclusions.specs.declared.Side.{Side}
 use Rattle.inclusions.specs.Words.{Included, weight, Weighed}
 
 module _ (q : Side) (own : List Float) (other : Solid) where
-  pub weighed-none : (l : List ℤ) → Weighed q own other l l 0
-  weighed-none l = record { before = λ i h. refl; there = λ i h. absurd (omega (arith, h)); few = λ i h. absurd (omega (arith, h)) }
+  pub weighed_none : (l : List ℤ) → Weighed q own other l l 0
+  weighed_none l = record { before = λ i h. refl; there = λ i h. absurd (omega (arith, h)); few = λ i h. absurd (omega (arith, h)) }
 
-  pub weighed-next : (old new : List ℤ) (i : ℕ) (v : ℤ) → q.at + i < length new → v ≡ weight q own other i → nat_abs v ≤ 257 → Weighed q own other old new i
+  pub weighed_next : (old new : List ℤ) (i : ℕ) (v : ℤ) → q.at + i < length new → v ≡ weight q own other i → nat_abs v ≤ 257 → Weighed q own other old new i
       → Weighed q own other old (set new (q.at + i) v) (i + 1)
-  weighed-next old new i v r e small w =
+  weighed_next old new i v r e small w =
       let same = get_or-set_same new (q.at + i) v (pos 0) r in
       let kept : (x : ℕ) → x < i → get_or (set new (q.at + i) v) (q.at + x) (pos 0) ≡ get_or new (q.at + x) (pos 0) = λ x h. get_or-set_other new (q.at + i) (q.at + x) v (pos 0) (λ e. absurd (omega (arith, e, h))) in
       record {
@@ -37,15 +37,15 @@ module _ (q : Side) (own : List Float) (other : Solid) where
 
 -- ---- A's vertices, then B's
 module _ (op : Operation) (a b : Solid) (q r : Side) {old mid new : List ℤ} (first : q.at ≡ 0) (second : r.at ≡ vertices a) where
-  pub weighed-both : ((i : ℕ) → weight q a.points b i ≡ inclusion op a b (vA i)) → ((i : ℕ) → weight r b.points a i ≡ inclusion op a b (vB i))
+  pub weighed_both : ((i : ℕ) → weight q a.points b i ≡ inclusion op a b (vA i)) → ((i : ℕ) → weight r b.points a i ≡ inclusion op a b (vB i))
       → length new ≡ vertices a + vertices b → Weighed q a.points b old mid (vertices a) → Weighed r b.points a mid new (vertices b) → Included op a b new
-  weighed-both of-a of-b long w v =
+  weighed_both of_a of_b long w v =
       let at_a : (i : ℕ) → q.at + i ≡ i = λ i. omega (arith, first) in
       let kept : (i : ℕ) → i < vertices a → get_or new i (pos 0) ≡ get_or mid i (pos 0) = λ i l. v.before i (omega (arith, l, second)) in
       record {
         long = omega (arith, long);
-        of-a = λ i l. kept i l ∙ ap (λ k. get_or mid k (pos 0)) (sym (at_a i)) ∙ w.there i l ∙ of-a i;
-        of-b = λ i l. ap (λ k. get_or new (k + i) (pos 0)) (sym second) ∙ v.there i l ∙ of-b i;
+        of_a = λ i l. kept i l ∙ ap (λ k. get_or mid k (pos 0)) (sym (at_a i)) ∙ w.there i l ∙ of_a i;
+        of_b = λ i l. ap (λ k. get_or new (k + i) (pos 0)) (sym second) ∙ v.there i l ∙ of_b i;
         few = λ i. elim (dec_lt i (vertices a)) [
           | yes l ↦ rw (kept i l) (subst (λ k. nat_abs (get_or mid k (pos 0)) ≤ 257) (at_a i) (w.few i l))
           | no l ↦ elim (dec_lt (i - vertices a) (vertices b)) [

@@ -2,7 +2,7 @@
 use Rattle.std.specs.Prelude.{◌≡◌, Bool, true, false, List, [], ℕ, ◌+◌, ◌<◌, ◌≤◌, ℤ, pos, nat_abs, ◌+ℤ◌, ◌*ℤ◌, length, get_or, Float}
 use Rattle.list_words.specs.Lists.{sum_of, up_to}
 use Rattle.solids.specs.Solids.{Solid, vertices, solid, vertex, facets, facet}
-use Rattle.solids.specs.Words.{facet-S, contained}
+use Rattle.solids.specs.Words.{facet_S, contained}
 use Rattle.results.specs.declared.Operation.{Operation}
 use Rattle.results.specs.Inclusion.{inclusion, vA, vB}
 use Rattle.bounds.specs.declared.Far.{Far}
@@ -15,8 +15,8 @@ use Rattle.inclusions.specs.declared.Side.{Side}
 
 pub record Included (op : Operation) (a b : Solid) (inc : List ℤ) : Type 0 where
   pub long : vertices a + vertices b ≤ length inc
-  pub of-a : (i : ℕ) → i < vertices a → get_or inc i (pos 0) ≡ inclusion op a b (vA i)
-  pub of-b : (i : ℕ) → i < vertices b → get_or inc (vertices a + i) (pos 0) ≡ inclusion op a b (vB i)
+  pub of_a : (i : ℕ) → i < vertices a → get_or inc i (pos 0) ≡ inclusion op a b (vA i)
+  pub of_b : (i : ℕ) → i < vertices b → get_or inc (vertices a + i) (pos 0) ≡ inclusion op a b (vB i)
   pub few : (i : ℕ) → nat_abs (get_or inc i (pos 0)) ≤ 257
 
 -- ---- the vertices of one solid, as the other counts them
@@ -27,8 +27,8 @@ idle true = Below
 idle false = Above
 
 -- no vertex has a blank
-abbrev pub All-present : List Float → Type 0
-All-present own = (i : ℕ) → Present (vertex (solid own []) i)
+abbrev pub All_present : List Float → Type 0
+All_present own = (i : ℕ) → Present (vertex (solid own []) i)
 
 pub record Siding (q : Side) (points : List Float) (s : Solid) : Type 0 where
   pub own : q.own ≡ whole (solid points [])
@@ -42,7 +42,7 @@ weight q own other i = q.alone +ℤ q.times *ℤ contained q.as_b (vertex (solid
 
 -- what a facet of the other counts for vertex i, and facets with their boxes that count all there is for the vertices from `begin` to `end`
 abbrev pub counted : Side → List Float → Solid → ℕ → ℕ → ℤ
-counted q own s i f = facet-S q.as_b (vertex (solid own []) i) (facet s f)
+counted q own s i f = facet_S q.as_b (vertex (solid own []) i) (facet s f)
 
 pub record Facing (q : Side) (own : List Float) (s : Solid) (columns : List ℕ) (boxes : List Float) (begin end : ℕ) : Type 0 where
   pub boxed : Boxed boxes Facets s

@@ -46,7 +46,7 @@ fn s_near(
 ) -> i32
     requires named { Sw.Named points.now corners.now × (Ad.admission (So.lent points corners) ≡ Accepted) × Bo.Present v }
     requires boxed { Bo.Boxed boxes.now Facets (So.lent points corners) × Bo.Among columns.now Facets (So.lent points corners) × (i < length columns.now) }
-    ensures value { result ≡ Sw.facet-S as_b v (So.facet (So.lent points.entry corners.entry) (get_or columns.now i 0)) }
+    ensures value { result ≡ Sw.facet_S as_b v (So.facet (So.lent points.entry corners.entry) (get_or columns.now i 0)) }
     ensures small { nat_abs result ≤ 1 }
 {
     let f = columns[i] as usize;
@@ -66,7 +66,7 @@ fn sum_near(
 ) -> i32
     requires named { Sw.Named points.now corners.now × (Ad.admission (So.lent points corners) ≡ Accepted) × Bo.Present v }
     requires boxed { Bo.Boxed boxes.now Facets (So.lent points corners) × Bo.Among columns.now Facets (So.lent points corners) × (length columns.now ≤ 256) }
-    ensures value { result ≡ sum_of (λ f. Sw.facet-S as_b v (So.facet (So.lent points.entry corners.entry) f)) columns.now }
+    ensures value { result ≡ sum_of (λ f. Sw.facet_S as_b v (So.facet (So.lent points.entry corners.entry) f)) columns.now }
     ensures small { nat_abs result ≤ 256 }
 {
     let mut sum: i32 = 0;
@@ -91,7 +91,7 @@ fn contained_near(
     requires named { Sw.Named points.now corners.now × (Ad.admission (So.lent points corners) ≡ Accepted) × Bo.Present v }
     requires boxed { Bo.Boxed boxes.now Facets (So.lent points corners) × Bo.Among columns.now Facets (So.lent points corners) × (length columns.now ≤ 256) }
     requires whole_value { whole ≡ Bo.whole (So.lent points corners) }
-    requires columns_value { sum_of (λ f. Sw.facet-S as_b v (So.facet (So.lent points corners) f)) columns.now ≡ sum_of (λ f. Sw.facet-S as_b v (So.facet (So.lent points corners) f)) (up_to (length corners.now / 3)) }
+    requires columns_value { sum_of (λ f. Sw.facet_S as_b v (So.facet (So.lent points corners) f)) columns.now ≡ sum_of (λ f. Sw.facet_S as_b v (So.facet (So.lent points corners) f)) (up_to (length corners.now / 3)) }
     ensures value { result ≡ Sw.contained as_b v (So.lent points.entry corners.entry) }
     ensures small { nat_abs result ≤ 256 }
 {
@@ -122,7 +122,7 @@ fn weigh(
     end: usize,
     inc: &mut [i16],
 )
-    requires named { Sw.Named points.now corners.now × (Ad.admission (So.lent points corners) ≡ Accepted) × In.All-present own.now }
+    requires named { Sw.Named points.now corners.now × (Ad.admission (So.lent points corners) ≡ Accepted) × In.All_present own.now }
     requires facing { In.Facing side own.now (So.lent points corners) columns.now boxes.now begin end × (begin ≤ end) × (end ≤ length own.now / 3) }
     requires siding { In.Siding side own.now (So.lent points corners) × (length own.now ≤ 384) × (side.at + length own.now / 3 ≤ length inc.old) × (length inc.old ≤ 256) }
     ensures weighed { (old : List ℤ) → In.Weighed side own.now (So.lent points.entry corners.entry) old inc.old begin → In.Weighed side own.now (So.lent points.entry corners.entry) old inc.new end }
@@ -148,7 +148,7 @@ fn weigh_groups(
     boxes: &[f64],
     inc: &mut [i16],
 )
-    requires named { Sw.Named points.now corners.now × (Ad.admission (So.lent points corners) ≡ Accepted) × In.All-present own.now }
+    requires named { Sw.Named points.now corners.now × (Ad.admission (So.lent points corners) ≡ Accepted) × In.All_present own.now }
     requires facing { In.Facing side own.now (So.lent points corners) columns.now boxes.now 0 (length own.now / 3) }
     requires siding { In.Siding side own.now (So.lent points corners) × (length own.now ≤ 384) × (side.at + length own.now / 3 ≤ length inc.old) × (length inc.old ≤ 256) }
     ensures weighed { In.Weighed side own.now (So.lent points.entry corners.entry) inc.old inc.new (length own.now / 3) }
@@ -174,7 +174,7 @@ fn include_side(
     ends: &[u32],
     inc: &mut [i16],
 )
-    requires ready { Ed.Ready points.now corners.now ends.now × (Ad.admission (So.lent points corners) ≡ Accepted) × In.All-present own.now }
+    requires ready { Ed.Ready points.now corners.now ends.now × (Ad.admission (So.lent points corners) ≡ Accepted) × In.All_present own.now }
     requires siding { In.Siding side own.now (So.lent points corners) × (length own.now ≤ 384) × (side.at + length own.now / 3 ≤ length inc.old) × (length inc.old ≤ 256) }
     ensures weighed { In.Weighed side own.now (So.lent points.entry corners.entry) inc.old inc.new (length own.now / 3) }
     ensures same { length inc.new ≡ length inc.old }

@@ -20,18 +20,18 @@ joined es l = all_placed (l, record { starts = 0; stops = 0 }) es
 abbrev pub blank : End
 blank = record { vertex = 0; count = pos 0 }
 
-abbrev pub placed-to : List End → State → ℕ → State
-placed-to es s zero = s
-placed-to es s (suc i) = placed (placed-to es s i) (get_or es i blank)
+abbrev pub placed_to : List End → State → ℕ → State
+placed_to es s zero = s
+placed_to es s (suc i) = placed (placed_to es s i) (get_or es i blank)
 
-first-placed : (e : End) (es : List End) (s : State) (i : ℕ) → placed-to (e ∷ es) s (suc i) ≡ placed-to es (placed s e) i
-first-placed e es s zero = refl
-first-placed e es s (suc i) = ap {B = State} (λ (t : State). placed t (get_or es i blank)) (first-placed e es s i)
+first_placed : (e : End) (es : List End) (s : State) (i : ℕ) → placed_to (e ∷ es) s (suc i) ≡ placed_to es (placed s e) i
+first_placed e es s zero = refl
+first_placed e es s (suc i) = ap {B = State} (λ (t : State). placed t (get_or es i blank)) (first_placed e es s i)
 
-pub placed-to-all : (es : List End) (s : State) → placed-to es s (length es) ≡ all_placed s es
-placed-to-all [] s = refl
-placed-to-all (e ∷ es) s = first-placed e es s (length es) ∙ placed-to-all es (placed s e)
+pub placed_to_all : (es : List End) (s : State) → placed_to es s (length es) ≡ all_placed s es
+placed_to_all [] s = refl
+placed_to_all (e ∷ es) s = first_placed e es s (length es) ∙ placed_to_all es (placed s e)
 
-pub placed-append : (s : State) (xs ys : List End) → all_placed s (xs ++ ys) ≡ all_placed (all_placed s xs) ys
-placed-append s [] ys = refl
-placed-append s (e ∷ xs) ys = placed-append (placed s e) xs ys
+pub placed_append : (s : State) (xs ys : List End) → all_placed s (xs ++ ys) ≡ all_placed (all_placed s xs) ys
+placed_append s [] ys = refl
+placed_append s (e ∷ xs) ys = placed_append (placed s e) xs ys

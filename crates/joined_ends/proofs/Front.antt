@@ -45,10 +45,10 @@ module _ {M : Type 1} {𝓤 : Ura M} (𝓛 : Logic 𝓤) (R : RattleType) (singl
   abbrev pub Lent : Lifetime → Lft → GName → Fml
   Lent ℓ κ γ = (ShrSlice ℓ κ R).own_val (record { ref_ptr = (b, 0); now = front }) (slice_val (b, 0) (length front) ∷ [])
 
-  pub lends-front : (ℓ : Lifetime) (κ : Lft) (v : Val) → Room R (length front)
+  pub lends_front : (ℓ : Lifetime) (κ : Lft) (v : Val) → Room R (length front)
       → ent 𝓤 (sep 𝓤 (H.at full_share τ b 0 v) (sem 𝓛 ((Array R n).own_val xs (v ∷ [])))) (H.⇛ (ex 𝓤 (λ (γ : GName). sep 𝓤 (sem 𝓛 (Lent ℓ κ γ)) (sem 𝓛 (Kept κ)))))
   unfolding part_of
-  lends-front ℓ κ v room =
+  lends_front ℓ κ v room =
       qed 𝓛 (‵ (fat full_share τ b 0 v) ∷ ‵ ((Array R n).own_val xs (v ∷ [])) ∷ []) ∵ updating ! $ use1 𝓛 (‵ (cell_at full_share (τ ∷ []) (v ∷ []) b 0)) (𝓛.laws.at_raw full_share τ b 0 v) $ fjoin ! $
       fpack ! (List Val) (λ us. fsep (cell_at full_share (τ ∷ []) us b 0) ((Array R n).own_val xs us)) (v ∷ []) $
       use1 𝓛 (‵ ((arr_parts (shares R) n).part full_share xs b 0)) (Array-apart 𝓛 R full_share single n xs b 0) $ fsplit ! $ drop ! $
@@ -60,9 +60,9 @@ module _ {M : Type 1} {𝓤 : Ura M} (𝓛 : Logic 𝓤) (R : RattleType) (singl
       use1 𝓛 (‵ (Lent ℓ κ γ) ⊛ ‵ (Loan κ)) (id⊢ 𝓤 _) $ split ! $
       at_once ! $ show ! (λ (δ : GName). sep 𝓤 (sem 𝓛 (Lent ℓ κ δ)) (sem 𝓛 (Kept κ))) γ $ frame ! $ done !)
 
-  pub front-back : (κ : Lft) → ent 𝓤 (sep 𝓤 (A.dead κ) (sem 𝓛 (Kept κ))) (H.⇛ (H.room τ b 0))
+  pub front_back : (κ : Lft) → ent 𝓤 (sep 𝓤 (A.dead κ) (sem 𝓛 (Kept κ))) (H.⇛ (H.room τ b 0))
   unfolding part_of
-  front-back κ =
+  front_back κ =
       qed 𝓛 (‵ (fdead κ) ∷ ‵ (Kept κ) ∷ []) ∵ updating ! $ move ! (1 ∷ []) $ fsplit ! $ move ! (2 ∷ 0 ∷ []) $ lent_back ! tt $ fsplit ! $ drop ! $
       use1 𝓛 (‵ (cells (mem R) front b 0)) (whole_in 𝓛 R front b 0) $ use2 𝓛 (‵ (cells (mem R) (front ++ behind k xs) b 0)) (join_app 𝓛 (mem R) front (behind k xs) b 0) $
       rewrite ! 0 (λ (z : List R.Denot). ‵ (cells (mem R) z b 0)) (take-append-drop k xs) refl $ use1 𝓛 (‵ (row R full_share xs b 0)) (whole_out 𝓛 R xs b 0) $ feq_i ! ℕ (length xs) n l $ fjoin ! $

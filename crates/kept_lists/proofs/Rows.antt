@@ -14,26 +14,26 @@ use Rattle.vertex_table.specs.Words.{flip}
 use Rattle.kept_lists.specs.Words.{Rows, Crossings, rows, span, blank, at_place, entry, look}
 
 -- lists whose columns are there, with any number for the first crossing
-pub crossings-of : {z : Sizes} {first crossed : List ℕ} → Columns z first crossed → (base : ℕ) → base + length crossed ≤ 1048576 → Crossings z (rows first crossed base)
-crossings-of g base few = record { first-long = g.first-long; within = g.within; few = few }
+pub crossings_of : {z : Sizes} {first crossed : List ℕ} → Columns z first crossed → (base : ℕ) → base + length crossed ≤ 1048576 → Crossings z (rows first crossed base)
+crossings_of g base few = record { first_long = g.first_long; within = g.within; few = few }
 
 -- what is left of a row from place k up to `to`
 abbrev pub left : Rows → ℕ → ℕ → List (ℕ × End)
 left w k to = map (entry w) (span k (to - k))
 
 module _ (w : Rows) (c k to : ℕ) where
-  pub look-here : k < to → column (get_or w.crossed k 0) ≡ c → look c (left w k to) ≡ at_place w k
+  pub look_here : k < to → column (get_or w.crossed k 0) ≡ c → look c (left w k to) ≡ at_place w k
   unfolding look span
-  look-here h e = let q : to - k ≡ suc (to - (k + 1)) = omega arith in rw (q, eq-eqb _ _ e)
+  look_here h e = let q : to - k ≡ suc (to - (k + 1)) = omega arith in rw (q, eq-eqb _ _ e)
 
-  pub look-on : k < to → (column (get_or w.crossed k 0) ≡ c → ⊥) → look c (left w k to) ≡ look c (left w (k + 1) to)
+  pub look_on : k < to → (column (get_or w.crossed k 0) ≡ c → ⊥) → look c (left w k to) ≡ look c (left w (k + 1) to)
   unfolding look span
-  look-on h n = let q : to - k ≡ suc (to - (k + 1)) = omega arith in rw (q, ne_eqb _ _ n, add-one k)
+  look_on h n = let q : to - k ≡ suc (to - (k + 1)) = omega arith in rw (q, ne_eqb _ _ n, add-one k)
 
-  pub look-end : to ≤ k → look c (left w k to) ≡ blank
+  pub look_end : to ≤ k → look c (left w k to) ≡ blank
   unfolding look span
-  look-end h = let q : to - k ≡ 0 = omega arith in rw q
+  look_end h = let q : to - k ≡ 0 = omega arith in rw q
 
-pub flip-blank : (b : Bool) → flip b blank ≡ blank
-flip-blank true = refl
-flip-blank false = refl
+pub flip_blank : (b : Bool) → flip b blank ≡ blank
+flip_blank true = refl
+flip_blank false = refl

@@ -10,8 +10,8 @@ use Rattle.results.specs.declared.End.{End}
 use Rattle.results.specs.Pieces.{starts, stops, pieces}
 use Rattle.joined_ends.specs.Words.{Behind}
 
-pub behind-two : (l : List ℕ) (at from to : ℕ) → at + 2 ≤ length l → Behind (from ∷ to ∷ []) l at (set (set l at from) (at + 1) to) (at + 2)
-behind-two l at from to h =
+pub behind_two : (l : List ℕ) (at from to : ℕ) → at + 2 ≤ length l → Behind (from ∷ to ∷ []) l at (set (set l at from) (at + 1) to) (at + 2)
+behind_two l at from to h =
     let e : at + 2 ≡ suc (at + 1) = omega arith in
     let d : at + 1 ≡ suc at = omega arith in
     record {
@@ -29,8 +29,8 @@ unfolding pieces starts stops flat_map zip
 none v u (pos n) = refl
 none v u (negsuc n) = refl
 
-pub no-piece : (a b : End) → a.count ≡ pos 0 → pieces (a ∷ b ∷ []) ≡ []
-no-piece a b e = ap (λ n. pieces (end a.vertex n ∷ b ∷ [])) e ∙ none a.vertex b.vertex b.count
+pub no_piece : (a b : End) → a.count ≡ pos 0 → pieces (a ∷ b ∷ []) ≡ []
+no_piece a b e = ap (λ n. pieces (end a.vertex n ∷ b ∷ [])) e ∙ none a.vertex b.vertex b.count
 
 pub one_piece : (a b : End) → a.count ≡ negsuc 0 → b.count ≡ pos 1 → pieces (a ∷ b ∷ []) ≡ (a.vertex, b.vertex) ∷ []
 unfolding pieces starts stops flat_map zip

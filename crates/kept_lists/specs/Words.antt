@@ -7,7 +7,7 @@ use Rattle.solids.specs.Solids.{Half}
 use Rattle.results.specs.declared.End.{End}
 use Rattle.results.specs.Pieces.{pieces}
 use Rattle.layouts.specs.declared.Sizes.{Sizes}
-use Rattle.vertex_table.specs.Words.{Table, table, end, on_edge, on-facet, of-B, off, flip, turn, others, some-count, Halves}
+use Rattle.vertex_table.specs.Words.{Table, table, end, on_edge, on_facet, of_B, off, flip, turn, others, some_count, Halves}
 use Rattle.layouts.specs.Words.{edge_at, against, column, inclusion, columns, Listing}
 use Rattle.marks.specs.Words.{marked}
 use Rattle.fan_counts.specs.Words.{Composite}
@@ -67,13 +67,13 @@ dense z inc num w = let es = ends z inc num w in table (map (λ (e : End). e.cou
 -- ---- what the lists promise
 
 pub record Crossings (z : Sizes) (w : Rows) : Type 0 where
-  pub first-long : z.ea + z.fa < length w.first
+  pub first_long : z.ea + z.fa < length w.first
   pub within : (r : ℕ) → r ≤ z.ea + z.fa → get_or w.first r 0 ≤ length w.crossed
   pub few : w.base + length w.crossed ≤ 1048576
 
 pub record Vertices (z : Sizes) (inc : List ℤ) (num : List ℕ) : Type 0 where
-  pub inc-long : z.va + z.vb ≤ length inc
-  pub num-long : z.va + z.vb ≤ length num
+  pub inc_long : z.va + z.vb ≤ length inc
+  pub num_long : z.va + z.vb ≤ length num
   pub small : (i : ℕ) → nat_abs (get_or inc i (pos 0)) ≤ 257
 
 pub record Ready (hs : List ℕ) (z : Sizes) (inc : List ℤ) (num : List ℕ) (w : Rows) : Type 0 where
@@ -83,8 +83,8 @@ pub record Ready (hs : List ℕ) (z : Sizes) (inc : List ℤ) (num : List ℕ) (
 
 -- ---- two facets: the same as over the table
 
-abbrev pub a-end : Rows → List ℕ → ℕ → ℕ → End
-a-end w hs g h = flip (not (against hs h)) (crossing w (edge_at hs h) g)
+abbrev pub a_end : Rows → List ℕ → ℕ → ℕ → End
+a_end w hs g h = flip (not (against hs h)) (crossing w (edge_at hs h) g)
 
 abbrev pub b_end : Rows → List ℕ → Sizes → ℕ → ℕ → End
 b_end w hs z f h = flip (against hs h) (crossing w (z.ea + f) (edge_at hs h))
@@ -92,12 +92,12 @@ b_end w hs z f h = flip (against hs h) (crossing w (z.ea + f) (edge_at hs h))
 unfoldable pub pair_ends : Rows → List ℕ → Sizes → ℕ → ℕ → List End
 pair_ends w hs z f g =
     let m = z.fa + g in
-    a-end w hs g (3 * f) ∷ a-end w hs g (3 * f + 1) ∷ a-end w hs g (3 * f + 2)
+    a_end w hs g (3 * f) ∷ a_end w hs g (3 * f + 1) ∷ a_end w hs g (3 * f + 2)
     ∷ b_end w hs z f (3 * m) ∷ b_end w hs z f (3 * m + 1) ∷ b_end w hs z f (3 * m + 2) ∷ []
 
 -- facet x, A's or B's, with facet i of the other solid: the six ends, and the pieces
-abbrev pub side-ends : Rows → List ℕ → Sizes → ℕ → ℕ → List End
-side-ends w hs z x i = cond (ltb x z.fa) (pair_ends w hs z x i) (pair_ends w hs z i (x - z.fa))
+abbrev pub side_ends : Rows → List ℕ → Sizes → ℕ → ℕ → List End
+side_ends w hs z x i = cond (ltb x z.fa) (pair_ends w hs z x i) (pair_ends w hs z i (x - z.fa))
 
 unfoldable pub pair : Rows → List ℕ → Sizes → ℕ → ℕ → List Half
 pair w hs z x i = cond (ltb x z.fa) (pieces (pair_ends w hs z x i)) (map turned (pieces (pair_ends w hs z i (x - z.fa))))
@@ -107,26 +107,26 @@ row w hs z x = flat_map (pair w hs z x) (up_to (others z x))
 
 -- ---- half-edge h: its edge's start and end (k is 1 or 2), and its crossing with facet i of the other solid
 
-abbrev pub corner-at : List ℕ → Sizes → ℕ → ℕ → ℕ
-corner-at hs z h k = cond (ltb h (3 * z.fa)) (get_or hs (3 * h + k) 0) (z.va + get_or hs (3 * h + k) 0)
+abbrev pub corner_at : List ℕ → Sizes → ℕ → ℕ → ℕ
+corner_at hs z h k = cond (ltb h (3 * z.fa)) (get_or hs (3 * h + k) 0) (z.va + get_or hs (3 * h + k) 0)
 
-abbrev pub line-end : Rows → List ℕ → Sizes → ℕ → ℕ → End
-line-end w hs z h i = cond (ltb h (3 * z.fa)) (crossing w (edge_at hs h) i) (crossing w (z.ea + i) (edge_at hs h))
+abbrev pub line_end : Rows → List ℕ → Sizes → ℕ → ℕ → End
+line_end w hs z h i = cond (ltb h (3 * z.fa)) (crossing w (edge_at hs h) i) (crossing w (z.ea + i) (edge_at hs h))
 
-abbrev pub line-many : Sizes → ℕ → ℕ
-line-many z h = cond (ltb h (3 * z.fa)) z.fb z.fa
+abbrev pub line_many : Sizes → ℕ → ℕ
+line_many z h = cond (ltb h (3 * z.fa)) z.fb z.fa
 
 -- the first n crossings, behind start and end
-unfoldable pub line-ends : List ℤ → List ℕ → Rows → List ℕ → Sizes → ℕ → ℕ → List End
-line-ends inc num w hs z h n = off (vertex inc num (corner-at hs z h 1)) ∷ vertex inc num (corner-at hs z h 2) ∷ map (line-end w hs z h) (up_to n)
+unfoldable pub line_ends : List ℤ → List ℕ → Rows → List ℕ → Sizes → ℕ → ℕ → List End
+line_ends inc num w hs z h n = off (vertex inc num (corner_at hs z h 1)) ∷ vertex inc num (corner_at hs z h 2) ∷ map (line_end w hs z h) (up_to n)
 
 unfoldable pub half : List ℤ → List ℕ → Rows → List ℕ → Sizes → ℕ → List Half
-half inc num w hs z h = turn (against hs h) (pieces (line-ends inc num w hs z h (line-many z h)))
+half inc num w hs z h = turn (against hs h) (pieces (line_ends inc num w hs z h (line_many z h)))
 
 -- ---- composite edges whose pieces can be counted without joining: as many starts as stops, and no vertex has both
 
 pub record Balanced (hs : List ℕ) (z : Sizes) (inc : List ℤ) (num : List ℕ) (w : Rows) : Type 0 where
-  pub line : (h : ℕ) → h < 3 * (z.fa + z.fb) → Composite (line-ends inc num w hs z h (line-many z h))
+  pub line : (h : ℕ) → h < 3 * (z.fa + z.fb) → Composite (line_ends inc num w hs z h (line_many z h))
   pub pair : (f g : ℕ) → f < z.fa → g < z.fb → Composite (pair_ends w hs z f g)
 
 -- ---- marks by edge: edge e of A with facet g of B, then edge e of B with facet f of A
@@ -134,26 +134,26 @@ pub record Balanced (hs : List ℕ) (z : Sizes) (inc : List ℤ) (num : List ℕ
 abbrev pub line_row : List ℕ → Sizes → ℕ → ℕ
 line_row hs z h = cond (ltb h (3 * z.fa)) (edge_at hs h) (z.ea + edge_at hs h)
 
-abbrev pub mark-at : Sizes → ℕ → ℕ → ℕ
-mark-at z r c = cond (ltb r z.ea) (256 * r + c) (256 * (z.ea + c) + (r - z.ea))
+abbrev pub mark_at : Sizes → ℕ → ℕ → ℕ
+mark_at z r c = cond (ltb r z.ea) (256 * r + c) (256 * (z.ea + c) + (r - z.ea))
 
 -- what is not marked does not cross
 pub record Edges (z : Sizes) (w : Rows) (l : List ℕ) : Type 0 where
   pub long : 4 * (z.ea + z.eb) ≤ length l
   pub few : length l ≤ 65536
-  pub quiet : (r c : ℕ) → r < z.ea + z.fa → marked l (mark-at z r c) ≡ false → crossing w r c ≡ blank
+  pub quiet : (r c : ℕ) → r < z.ea + z.fa → marked l (mark_at z r c) ≡ false → crossing w r c ≡ blank
 
 -- ---- behind them marks by facet x, A's or B's, and facet i of the other solid
 
 -- its row
-abbrev pub facet-row : Sizes → ℕ → ℕ
-facet-row z x = z.ea + z.eb + x
+abbrev pub facet_row : Sizes → ℕ → ℕ
+facet_row z x = z.ea + z.eb + x
 
 -- what is not marked does not count
 pub record Pairs (w : Rows) (hs : List ℕ) (z : Sizes) (l : List ℕ) : Type 0 where
   pub long : 4 * (z.ea + z.eb + z.fa + z.fb) ≤ length l
   pub few : length l ≤ 65536
-  pub quiet : (x i : ℕ) → x < z.fa + z.fb → i < others z x → marked l (256 * facet-row z x + i) ≡ false → some-count (side-ends w hs z x i) ≡ false
+  pub quiet : (x i : ℕ) → x < z.fa + z.fb → i < others z x → marked l (256 * facet_row z x + i) ≡ false → some_count (side_ends w hs z x i) ≡ false
 
 pub record Marked (hs : List ℕ) (z : Sizes) (w : Rows) (l : List ℕ) : Type 0 where
   pub edges : Edges z w l
@@ -167,15 +167,15 @@ pub record More (old new : List ℕ) : Type 0 where
 
 -- every crossing of row r from its start to place k is marked
 pub record Listed (z : Sizes) (first crossed l : List ℕ) (r k : ℕ) : Type 0 where
-  pub each : (j : ℕ) → get_or first r 0 ≤ j → j < k → marked l (mark-at z r (column (get_or crossed j 0))) ≡ true
+  pub each : (j : ℕ) → get_or first r 0 ≤ j → j < k → marked l (mark_at z r (column (get_or crossed j 0))) ≡ true
 
 -- facet i of the other solid with facet x, seen from there
 abbrev pub mirror : Sizes → ℕ → ℕ → ℕ
-mirror z x i = cond (ltb x z.fa) (256 * facet-row z (z.fa + i) + x) (256 * facet-row z i + (x - z.fa))
+mirror z x i = cond (ltb x z.fa) (256 * facet_row z (z.fa + i) + x) (256 * facet_row z i + (x - z.fa))
 
 -- what the first n marks of half-edge h said is marked for its facet x, both ways
 pub record Spread (z : Sizes) (hs old l : List ℕ) (x h n : ℕ) : Type 0 where
-  pub each : (i : ℕ) → i < n → marked old (256 * line_row hs z h + i) ≡ true → (marked l (256 * facet-row z x + i) ≡ true) × (marked l (mirror z x i) ≡ true)
+  pub each : (i : ℕ) → i < n → marked old (256 * line_row hs z h + i) ≡ true → (marked l (256 * facet_row z x + i) ≡ true) × (marked l (mirror z x i) ≡ true)
 
 -- ---- a table that the lists stand for: the same ends, but that a vertex which does not count has any number
 
@@ -183,25 +183,25 @@ abbrev pub tidy : End → End
 tidy e = cond (nonzero e.count) e blank
 
 pub record Held (z : Sizes) (inc : List ℤ) (num : List ℕ) (w : Rows) (t : Table) : Type 0 where
-  pub own-A : (i : ℕ) → i < z.va → tidy (end t i) ≡ tidy (vertex inc num i)
-  pub edge-A : (e g : ℕ) → e < z.ea → g < z.fb → tidy (end t (on_edge z e g)) ≡ crossing w e g
-  pub edge-B : (f e : ℕ) → f < z.fa → e < z.eb → tidy (end t (on-facet z f e)) ≡ crossing w (z.ea + f) e
-  pub own-B : (i : ℕ) → i < z.vb → tidy (end t (of-B z i)) ≡ tidy (vertex inc num (z.va + i))
+  pub own_A : (i : ℕ) → i < z.va → tidy (end t i) ≡ tidy (vertex inc num i)
+  pub edge_A : (e g : ℕ) → e < z.ea → g < z.fb → tidy (end t (on_edge z e g)) ≡ crossing w e g
+  pub edge_B : (f e : ℕ) → f < z.fa → e < z.eb → tidy (end t (on_facet z f e)) ≡ crossing w (z.ea + f) e
+  pub own_B : (i : ℕ) → i < z.vb → tidy (end t (of_B z i)) ≡ tidy (vertex inc num (z.va + i))
 
 -- ---- lists that hold what counts of a table, row by row
 
 abbrev pub slot : Sizes → ℕ → ℕ → ℕ
-slot z r c = cond (ltb r z.ea) (on_edge z r c) (on-facet z (r - z.ea) c)
+slot z r c = cond (ltb r z.ea) (on_edge z r c) (on_facet z (r - z.ea) c)
 
 -- a row's columns and inclusions, where those are not 0
-abbrev pub found-row : (ℕ → ℤ) → ℕ → List (ℕ × ℤ)
-found-row n many = keep (λ (x : ℕ × ℤ). nonzero x.1) (map (λ c. (c, n c)) (up_to many))
+abbrev pub found_row : (ℕ → ℤ) → ℕ → List (ℕ × ℤ)
+found_row n many = keep (λ (x : ℕ × ℤ). nonzero x.1) (map (λ c. (c, n c)) (up_to many))
 
 abbrev pub row_of : Table → Sizes → ℕ → List (ℕ × ℤ)
-row_of t z r = found-row (λ c. (end t (slot z r c)).count) (columns z r)
+row_of t z r = found_row (λ c. (end t (slot z r c)).count) (columns z r)
 
 -- lists that hold them, where what counts has the number of the first crossing and its place
 pub record Found (t : Table) (z : Sizes) (w : Rows) : Type 0 where
   pub listing : Listing (row_of t z) (z.ea + z.fa) w.first w.crossed
   pub number : (r c : ℕ) → r < z.ea + z.fa → c < columns z r → nonzero (end t (slot z r c)).count ≡ true
-      → (end t (slot z r c)).vertex ≡ w.base + (length (flat_map (row_of t z) (up_to r)) + length (found-row (λ c. (end t (slot z r c)).count) c))
+      → (end t (slot z r c)).vertex ≡ w.base + (length (flat_map (row_of t z) (up_to r)) + length (found_row (λ c. (end t (slot z r c)).count) c))

@@ -11,37 +11,37 @@ use mir.Facts.{to_z-of_z}
 use Rattle.list_words.specs.Lists.{nonzero}
 use Rattle.layouts.specs.Words.{code, packed, column, inclusion}
 
-code-small : (n : ℤ) → code n ≤ 3
-code-small (negsuc (suc n)) = omega arith
-code-small (negsuc zero) = omega arith
-code-small (pos zero) = omega arith
-code-small (pos (suc zero)) = omega arith
-code-small (pos (suc (suc n))) = omega arith
+code_small : (n : ℤ) → code n ≤ 3
+code_small (negsuc (suc n)) = omega arith
+code_small (negsuc zero) = omega arith
+code_small (pos zero) = omega arith
+code_small (pos (suc zero)) = omega arith
+code_small (pos (suc (suc n))) = omega arith
 
-pub column-packed : (c : ℕ) (n : ℤ) → column (packed (c, n)) ≡ c
+pub column_packed : (c : ℕ) (n : ℤ) → column (packed (c, n)) ≡ c
 unfolding column packed
-column-packed c n = omega (arith, code-small n)
+column_packed c n = omega (arith, code_small n)
 
 -- what the four tests say of an inclusion
 abbrev pub read : ℕ → ℤ
 read k = cond (eqb k 3) (pos 2) (cond (eqb k 2) (pos 1) (cond (eqb k 1) (negsuc 0) (negsuc 1)))
 
-read-code : (n : ℤ) → nat_abs n ≤ 2 → nonzero n ≡ true → read (code n) ≡ n
-read-code (negsuc (suc zero)) h e = refl
-read-code (negsuc (suc (suc n))) h e = absurd (omega arith)
-read-code (negsuc zero) h e = refl
-read-code (pos zero) h e = absurd (subst T (sym e) tt)
-read-code (pos (suc zero)) h e = refl
-read-code (pos (suc (suc zero))) h e = refl
-read-code (pos (suc (suc (suc n)))) h e = absurd (omega arith)
+read_code : (n : ℤ) → nat_abs n ≤ 2 → nonzero n ≡ true → read (code n) ≡ n
+read_code (negsuc (suc zero)) h e = refl
+read_code (negsuc (suc (suc n))) h e = absurd (omega arith)
+read_code (negsuc zero) h e = refl
+read_code (pos zero) h e = absurd (subst T (sym e) tt)
+read_code (pos (suc zero)) h e = refl
+read_code (pos (suc (suc zero))) h e = refl
+read_code (pos (suc (suc (suc n)))) h e = absurd (omega arith)
 
-pub inclusion-packed : (c : ℕ) (n : ℤ) → nat_abs n ≤ 2 → nonzero n ≡ true → inclusion (packed (c, n)) ≡ n
+pub inclusion_packed : (c : ℕ) (n : ℤ) → nat_abs n ≤ 2 → nonzero n ≡ true → inclusion (packed (c, n)) ≡ n
 unfolding inclusion packed
-inclusion-packed c n h e = let r : (4 * c + code n) % 4 ≡ code n = omega (arith, code-small n) in ap read r ∙ read-code n h e
+inclusion_packed c n h e = let r : (4 * c + code n) % 4 ≡ code n = omega (arith, code_small n) in ap read r ∙ read_code n h e
 
-pub inclusion-small : (x : ℕ) → nat_abs (inclusion x) ≤ 2
+pub inclusion_small : (x : ℕ) → nat_abs (inclusion x) ≤ 2
 unfolding inclusion
-inclusion-small x = go (eqb (x % 4) 3) (eqb (x % 4) 2) (eqb (x % 4) 1)
+inclusion_small x = go (eqb (x % 4) 3) (eqb (x % 4) 2) (eqb (x % 4) 1)
   where
     go : (p q r : Bool) → nat_abs (cond p (pos 2) (cond q (pos 1) (cond r (negsuc 0) (negsuc 1)))) ≤ 2
     go true q r = omega arith
@@ -49,9 +49,9 @@ inclusion-small x = go (eqb (x % 4) 3) (eqb (x % 4) 2) (eqb (x % 4) 1)
     go false false true = omega arith
     go false false false = omega arith
 
-pub inclusion-counts : (x : ℕ) → nonzero (inclusion x) ≡ true
+pub inclusion_counts : (x : ℕ) → nonzero (inclusion x) ≡ true
 unfolding inclusion
-inclusion-counts x = go (eqb (x % 4) 3) (eqb (x % 4) 2) (eqb (x % 4) 1)
+inclusion_counts x = go (eqb (x % 4) 3) (eqb (x % 4) 2) (eqb (x % 4) 1)
   where
     go : (p q r : Bool) → nonzero (cond p (pos 2) (cond q (pos 1) (cond r (negsuc 0) (negsuc 1)))) ≡ true
     go true q r = refl

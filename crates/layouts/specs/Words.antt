@@ -1,8 +1,8 @@
 -- Words of contracts; no public statement needs them. How the sizes, half-edges and crossings of two solids lie in lists.
 use Rattle.std.specs.Prelude.{◌≡◌, Bool, not, cond, ◌≤◌, ℕ, ◌+◌, ◌*◌, ◌/◌, ◌%◌, zero, suc, ◌<◌, length, get_or, take, eqb, ltb, ℤ, pos, negsuc}
 use mathlib.Core.List.{List, [], ◌∷◌, ◌++◌, flat_map, map}
-use Rattle.list_words.specs.Lists.{before, one-if, up_to}
-use Rattle.solids.specs.Solids.{Solid, vertices, facets, edges, Half, same_half, half-edges, along, edge_of}
+use Rattle.list_words.specs.Lists.{before, one_if, up_to}
+use Rattle.solids.specs.Solids.{Solid, vertices, facets, edges, Half, same_half, half_edges, along, edge_of}
 use Rattle.layouts.specs.declared.Sizes.{Sizes}
 
 -- ---- how many vertices, edges and facets two solids have
@@ -22,21 +22,21 @@ pub record Sized (z : Sizes) : Type 0 where
 -- ---- half-edges: those of two solids in one list, three numbers each, A's first
 
 -- an edge's number is its place in the list of edges
-abbrev pub edge-number : Solid → Half → ℕ
-edge-number s e = length (before same_half e (edges s))
+abbrev pub edge_number : Solid → Half → ℕ
+edge_number s e = length (before same_half e (edges s))
 
 -- twice its edge's number, and 1 more if it runs against it; the edge's start; its end
-abbrev pub half-first : Solid → Half → ℕ
-half-first s h = 2 * edge-number s (edge_of h) + one-if (not (along h))
+abbrev pub half_first : Solid → Half → ℕ
+half_first s h = 2 * edge_number s (edge_of h) + one_if (not (along h))
 
-abbrev pub half-numbers : Solid → Half → List ℕ
-half-numbers s h = half-first s h ∷ (edge_of h).0 ∷ (edge_of h).1 ∷ []
+abbrev pub half_numbers : Solid → Half → List ℕ
+half_numbers s h = half_first s h ∷ (edge_of h).0 ∷ (edge_of h).1 ∷ []
 
-unfoldable pub half-list : Solid → List ℕ
-half-list s = flat_map (half-numbers s) (half-edges s)
+unfoldable pub half_list : Solid → List ℕ
+half_list s = flat_map (half_numbers s) (half_edges s)
 
 unfoldable pub halves : Solid → Solid → List ℕ
-halves a b = half-list a ++ half-list b
+halves a b = half_list a ++ half_list b
 
 -- ---- what the list says of half-edge h: its edge, and whether it runs against it
 
@@ -74,7 +74,7 @@ columns z r = cond (ltb r z.ea) z.fb z.eb
 -- lists of crossings whose columns are there
 pub record Columns (z : Sizes) (first crossed : List ℕ) : Type 0 where
   pub sized : Sized z
-  pub first-long : z.ea + z.fa < length first
+  pub first_long : z.ea + z.fa < length first
   pub within : (r : ℕ) → r ≤ z.ea + z.fa → get_or first r 0 ≤ length crossed
   pub column : (r k : ℕ) → r < z.ea + z.fa → get_or first r 0 ≤ k → k < get_or first (r + 1) 0 → column (get_or crossed k 0) < columns z r
 

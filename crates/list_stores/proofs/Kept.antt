@@ -14,7 +14,7 @@ keep_append p (x ∷ s) t = go (p x) (keep_append p s t)
     go true e = ap {B = List _} (λ r. x ∷ r) e
     go false e = e
 
-pub least-snoc : (m : ℕ) (l : List ℕ) (n : ℕ) → least m (l ++ (n ∷ [])) ≡ min (least m l) n
+pub least_snoc : (m : ℕ) (l : List ℕ) (n : ℕ) → least m (l ++ (n ∷ [])) ≡ min (least m l) n
 unfolding least
-least-snoc m [] n = refl
-least-snoc m (x ∷ l) n = least-snoc (min m x) l n
+least_snoc m [] n = refl
+least_snoc m (x ∷ l) n = least_snoc (min m x) l n

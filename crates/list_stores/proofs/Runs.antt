@@ -8,9 +8,9 @@ use native.Mathlib.Omega.{arith}
 use lib.ListN.{length, length-append}
 use lib.Seq.{sets, length-sets}
 use Rattle.list_words.specs.Lists.{up_to}
-use Rattle.list_words.proofs.Places.{flat-upTo-add}
-use Rattle.list_words.proofs.UpTo.{flat-upTo-suc}
-use Rattle.list_stores.proofs.Stores.{sets-append}
+use Rattle.list_words.proofs.Places.{flat_up_to_add}
+use Rattle.list_words.proofs.UpTo.{flat_up_to_suc}
+use Rattle.list_stores.proofs.Stores.{sets_append}
 
 module _ {A : Type 0} (g : ℕ → List A) where
   -- into the list `old` from place `start` on; the next goes to place `at`
@@ -22,8 +22,8 @@ module _ {A : Type 0} (g : ℕ → List A) where
   unfolding up_to flat_map
   run_none old start = record { next = sym (add-zero start); stored = refl }
 
-  length-suc : (i : ℕ) → length (flat_map g (up_to (suc i))) ≡ length (flat_map g (up_to i)) + length (g i)
-  length-suc i = ap length (flat-upTo-suc g i) ∙ length-append (flat_map g (up_to i)) (g i)
+  length_suc : (i : ℕ) → length (flat_map g (up_to (suc i))) ≡ length (flat_map g (up_to i)) + length (g i)
+  length_suc i = ap length (flat_up_to_suc g i) ∙ length-append (flat_map g (up_to i)) (g i)
 
   -- the first ones are no longer than all
   length_front : (i n : ℕ) → i ≤ n → length (flat_map g (up_to i)) ≤ length (flat_map g (up_to n))
@@ -31,7 +31,7 @@ module _ {A : Type 0} (g : ℕ → List A) where
       let m = n - i in
       let e : i + m ≡ n = omega arith in
       let l : length (flat_map g (up_to n)) ≡ length (flat_map g (up_to i)) + length (flat_map (λ j. g (i + j)) (up_to m)) =
-      ap (λ k. length (flat_map g (up_to k))) (sym e) ∙ ap length (flat-upTo-add g i m) ∙ length-append (flat_map g (up_to i)) (flat_map (λ j. g (i + j)) (up_to m)) in
+      ap (λ k. length (flat_map g (up_to k))) (sym e) ∙ ap length (flat_up_to_add g i m) ∙ length-append (flat_map g (up_to i)) (flat_map (λ j. g (i + j)) (up_to m)) in
       omega (arith, l)
 
 module _ {A : Type 0} {g : ℕ → List A} {old new : List A} {start at i : ℕ} (r : Run g old new start at i) where
@@ -40,14 +40,14 @@ module _ {A : Type 0} {g : ℕ → List A} {old new : List A} {start at i : ℕ}
 
   -- where there is room for all, there is for the next
   pub run_room : {n : ℕ} → i < n → start + length (flat_map g (up_to n)) ≤ length old → at + length (g i) ≤ length new
-  run_room {n} h room = omega (arith, room, r.next, run_long, length-suc g i, length_front g (suc i) n (omega arith))
+  run_room {n} h room = omega (arith, room, r.next, run_long, length_suc g i, length_front g (suc i) n (omega arith))
 
-  pub run-next : {last : List A} {behind : ℕ} → last ≡ sets new at (g i) → behind ≡ at + length (g i) → Run g old last start behind (i + 1)
-  run-next e f =
+  pub run_next : {last : List A} {behind : ℕ} → last ≡ sets new at (g i) → behind ≡ at + length (g i) → Run g old last start behind (i + 1)
+  run_next e f =
       rw (add-one i) (record {
-        next = omega (arith, f, r.next, length-suc g i);
-        stored = e ∙ rw (r.stored, r.next) (sets-append old start (flat_map g (up_to i)) (g i)) ∙ ap (sets old start) (sym (flat-upTo-suc g i));
+        next = omega (arith, f, r.next, length_suc g i);
+        stored = e ∙ rw (r.stored, r.next) (sets_append old start (flat_map g (up_to i)) (g i)) ∙ ap (sets old start) (sym (flat_up_to_suc g i));
       })
 
-  pub run-all : {n : ℕ} → i ≡ n → (new ≡ sets old start (flat_map g (up_to n))) × (at ≡ start + length (flat_map g (up_to n)))
-  run-all e = rw (← e) (r.stored, r.next)
+  pub run_all : {n : ℕ} → i ≡ n → (new ≡ sets old start (flat_map g (up_to n))) × (at ≡ start + length (flat_map g (up_to n)))
+  run_all e = rw (← e) (r.stored, r.next)

@@ -9,37 +9,37 @@ use native.Mathlib.Omega.{arith}
 use lib.ListN.{length, get_or, set, drop, length-set, length-append, drop_of_length-le}
 use lib.Seq.{sets, sets-eq, drop-cons}
 use Rattle.list_words.specs.Lists.{up_to, onto}
-use Rattle.list_words.proofs.UpTo.{flat-upTo-suc}
+use Rattle.list_words.proofs.UpTo.{flat_up_to_suc}
 
 module _ {A : Type 0} where
-  pub sets-append : (l : List A) (i : ℕ) (vs ws : List A) → sets (sets l i vs) (i + length vs) ws ≡ sets l i (vs ++ ws)
-  sets-append l i [] ws = ap (λ k. sets l k ws) (add-zero i)
-  sets-append l i (a ∷ vs) ws =
+  pub sets_append : (l : List A) (i : ℕ) (vs ws : List A) → sets (sets l i vs) (i + length vs) ws ≡ sets l i (vs ++ ws)
+  sets_append l i [] ws = ap (λ k. sets l k ws) (add-zero i)
+  sets_append l i (a ∷ vs) ws =
       let e : i + suc (length vs) ≡ suc i + length vs = omega arith in
-      ap (λ k. sets (sets (set l i a) (suc i) vs) k ws) e ∙ sets-append (set l i a) (suc i) vs ws
+      ap (λ k. sets (sets (set l i a) (suc i) vs) k ws) e ∙ sets_append (set l i a) (suc i) vs ws
 
-  pub sets-onto : (l vs : List A) → length vs ≤ length l → sets l 0 vs ≡ onto vs l
-  sets-onto l vs h = sets-eq vs l 0 (omega arith) ∙ ap (λ k. vs ++ drop k l) (zero-add (length vs))
+  pub sets_onto : (l vs : List A) → length vs ≤ length l → sets l 0 vs ≡ onto vs l
+  sets_onto l vs h = sets-eq vs l 0 (omega arith) ∙ ap (λ k. vs ++ drop k l) (zero-add (length vs))
 
   -- a run behind a front
-  pub onto-append : (l vs ws : List A) → length vs + length ws ≤ length l → sets (onto vs l) (length vs) ws ≡ onto (vs ++ ws) l
-  onto-append l vs ws h =
-      ap (λ k. sets k (length vs) ws) (sym (sets-onto l vs (omega arith))) ∙ ap (λ k. sets (sets l 0 vs) k ws) (sym (zero-add (length vs)))
-      ∙ sets-append l 0 vs ws ∙ sets-onto l (vs ++ ws) (omega (arith, length-append vs ws))
+  pub onto_append : (l vs ws : List A) → length vs + length ws ≤ length l → sets (onto vs l) (length vs) ws ≡ onto (vs ++ ws) l
+  onto_append l vs ws h =
+      ap (λ k. sets k (length vs) ws) (sym (sets_onto l vs (omega arith))) ∙ ap (λ k. sets (sets l 0 vs) k ws) (sym (zero-add (length vs)))
+      ∙ sets_append l 0 vs ws ∙ sets_onto l (vs ++ ws) (omega (arith, length-append vs ws))
 
   -- three runs and four, each where the one before it ended
-  pub sets-three : (l : List A) (at i j : ℕ) (a b c : List A) → at + length a ≡ i → i + length b ≡ j
+  pub sets_three : (l : List A) (at i j : ℕ) (a b c : List A) → at + length a ≡ i → i + length b ≡ j
       → sets (sets (sets l at a) i b) j c ≡ sets l at (a ++ (b ++ c))
-  sets-three l at i j a b c e f =
-      rw (← f, ← e) (sets-append (sets l at a) (at + length a) b c ∙ sets-append l at a (b ++ c))
+  sets_three l at i j a b c e f =
+      rw (← f, ← e) (sets_append (sets l at a) (at + length a) b c ∙ sets_append l at a (b ++ c))
 
-  pub sets-four : (l : List A) (at i j k : ℕ) (m a b c : List A) → at + length m ≡ i → i + length a ≡ j → j + length b ≡ k
+  pub sets_four : (l : List A) (at i j k : ℕ) (m a b c : List A) → at + length m ≡ i → i + length a ≡ j → j + length b ≡ k
       → sets (sets (sets (sets l at m) i a) j b) k c ≡ sets l at (m ++ (a ++ (b ++ c)))
-  sets-four l at i j k m a b c e f g = sets-three (sets l at m) i j k a b c f g ∙ rw (← e) (sets-append l at m (a ++ (b ++ c)))
+  sets_four l at i j k m a b c e f g = sets_three (sets l at m) i j k a b c f g ∙ rw (← e) (sets_append l at m (a ++ (b ++ c)))
 
   -- three stores
-  pub three-stores : (l : List A) (at : ℕ) (a b c : A) → set (set (set l at a) (at + 1) b) (at + 2) c ≡ sets l at (a ∷ b ∷ c ∷ [])
-  three-stores l at a b c = rw (add-one at, two at)
+  pub three_stores : (l : List A) (at : ℕ) (a b c : A) → set (set (set l at a) (at + 1) b) (at + 2) c ≡ sets l at (a ∷ b ∷ c ∷ [])
+  three_stores l at a b c = rw (add-one at, two at)
     where
       two : (n : ℕ) → n + 2 ≡ suc (suc n)
       two n = omega arith
@@ -50,11 +50,11 @@ module _ {A : Type 0} where
     unfolding up_to flat_map
     length_run zero = sym (mul-zero k)
     length_run (suc n) =
-        ap length (flat-upTo-suc g n) ∙ length-append (flat_map g (up_to n)) (g n)
+        ap length (flat_up_to_suc g n) ∙ length-append (flat_map g (up_to n)) (g n)
         ∙ ap₂ ◌+◌ (length_run n) (even n) ∙ sym (mul-suc k n)
 
-    pub run-next : (l : List A) (at n : ℕ) → sets (sets l at (flat_map g (up_to n))) (at + k * n) (g n) ≡ sets l at (flat_map g (up_to (n + 1)))
-    run-next l at n = rw (add-one n, flat-upTo-suc g n, ← length_run n) (sets-append l at (flat_map g (up_to n)) (g n))
+    pub run_next : (l : List A) (at n : ℕ) → sets (sets l at (flat_map g (up_to n))) (at + k * n) (g n) ≡ sets l at (flat_map g (up_to (n + 1)))
+    run_next l at n = rw (add-one n, flat_up_to_suc g n, ← length_run n) (sets_append l at (flat_map g (up_to n)) (g n))
 
   -- ---- a list that is copied, element by element: those below i are there, and storing the others gives the whole copy
   pub record Copied (from old new : List A) (i : ℕ) : Type 0 where
@@ -74,4 +74,4 @@ module _ {A : Type 0} where
     }
 
     pub copied_all : length from ≤ i → length from ≤ length old → new ≡ onto from old
-    copied_all h k = ap (sets new i) (sym (drop_of_length-le from h)) ∙ g.left ∙ sets-onto old from k
+    copied_all h k = ap (sets new i) (sym (drop_of_length-le from h)) ∙ g.left ∙ sets_onto old from k

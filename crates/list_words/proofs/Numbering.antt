@@ -13,8 +13,8 @@ use lib.ListN.{length, get_elem?}
 use lib.IntN.{ℤ, pos}
 use Rattle.list_words.specs.Lists.{keep, before, above, below}
 use Rattle.list_words.proofs.Integers.{one_side}
-use Rattle.list_words.proofs.Sums.{All, all-at}
-use Rattle.list_words.proofs.Tests.{T_of, cond-true}
+use Rattle.list_words.proofs.Sums.{All, all_at}
+use Rattle.list_words.proofs.Tests.{T_of, cond_true}
 use Rattle.list_words.proofs.UpTo.{Distinct}
 use Rattle.list_words.proofs.Joining.{pieces, all_join}
 
@@ -26,7 +26,7 @@ module _ {K : Type 0} (eq : K → K → Bool) (kept : K → Bool) where
     -- among the kept keys, k stands at its number
     pub number_at : (k : K) (keys : List K) → Memᴰ k keys → kept k ≡ true → get_elem? (keep kept keys) (number k keys) ≡ some k
     unfolding keep before
-    number_at k [] m t = absurd (Memᴰ.not-nil m)
+    number_at k [] m t = absurd (Memᴰ.not_nil m)
     number_at k (x ∷ l) m t = go (eq k x) refl (Memᴰ.cases_cons m) (number_at k l)
       where
         further : (b : Bool) → get_elem? (keep kept l) (number k l) ≡ some k
@@ -38,12 +38,12 @@ module _ {K : Type 0} (eq : K → K → Bool) (kept : K → Bool) where
             → get_elem? (keep kept (x ∷ l)) (length (keep kept (cond b [] (x ∷ before eq k l)))) ≡ some k
         go true e m ih =
             let q : k ≡ x = sound k x (T_of (eq k x) e) in
-            ap (λ l. get_elem? l 0) (cond-true (kept x) (x ∷ keep kept l) (keep kept l) (ap kept (sym q) ∙ t)) ∙ ap some (sym q)
+            ap (λ l. get_elem? l 0) (cond_true (kept x) (x ∷ keep kept l) (keep kept l) (ap kept (sym q) ∙ t)) ∙ ap some (sym q)
         go false e (inl q) ih = absurd (subst T e (subst (λ y. T (eq k y)) q (self k)))
         go false e (inr m) ih = further (kept x) (ih m t)
 
-    pub number-inj : (k k' : K) (keys : List K) → Memᴰ k keys → kept k ≡ true → Memᴰ k' keys → kept k' ≡ true → number k keys ≡ number k' keys → k ≡ k'
-    number-inj k k' keys m t m' t' e = let q : some k ≡ some k' = sym (number_at k keys m t) ∙ ap (get_elem? (keep kept keys)) e ∙ number_at k' keys m' t' in cc
+    pub number_inj : (k k' : K) (keys : List K) → Memᴰ k keys → kept k ≡ true → Memᴰ k' keys → kept k' ≡ true → number k keys ≡ number k' keys → k ≡ k'
+    number_inj k k' keys m t m' t' e = let q : some k ≡ some k' = sym (number_at k keys m t) ∙ ap (get_elem? (keep kept keys)) e ∙ number_at k' keys m' t' in cc
 
     pub number_lt : (k : K) (keys : List K) → Memᴰ k keys → kept k ≡ true → number k keys < length (keep kept keys)
     number_lt k keys m t = inside (keep kept keys) (number k keys) (number_at k keys m t)
@@ -55,12 +55,12 @@ module _ {K : Type 0} (eq : K → K → Bool) (kept : K → Bool) where
 
 -- ---- pieces between numbered keys
 module _ {E K : Type 0} (key : E → K) where
-  same-element : (es : List E) → Distinct (map key es) → (e d : E) → Memᴰ e es → Memᴰ d es → key e ≡ key d → e ≡ d
-  same-element [] h e d m n q = absurd (Memᴰ.not-nil m)
-  same-element (x ∷ es) h e d m n q = go (Memᴰ.cases_cons m) (Memᴰ.cases_cons n) (same-element es h.1 e d)
+  same_element : (es : List E) → Distinct (map key es) → (e d : E) → Memᴰ e es → Memᴰ d es → key e ≡ key d → e ≡ d
+  same_element [] h e d m n q = absurd (Memᴰ.not_nil m)
+  same_element (x ∷ es) h e d m n q = go (Memᴰ.cases_cons m) (Memᴰ.cases_cons n) (same_element es h.1 e d)
     where
       apart : (z : E) → Memᴰ z es → key x ≢ key z
-      apart z i = all-at (λ k. key x ≢ k) (Memᴰ.map key i) h.0
+      apart z i = all_at (λ k. key x ≢ k) (Memᴰ.map key i) h.0
 
       go : (e ≡ x) ⊎ Memᴰ e es → (d ≡ x) ⊎ Memᴰ d es → (Memᴰ e es → Memᴰ d es → key e ≡ key d → e ≡ d) → e ≡ d
       go (inl a) (inl b) ih = a ∙ sym b
@@ -70,12 +70,12 @@ module _ {E K : Type 0} (key : E → K) where
 
   module _ {X : Type 0} (count : E → ℤ) (num : K → X) (Q : X × X → Type 0) (Kept : K → Type 0) where
     -- what holds from one kept key to another holds of each piece
-    pub join-keys : ((k k' : K) → Kept k → Kept k' → k ≢ k' → Q (num k, num k')) → (es : List E) → Distinct (map key es) → All (λ e. count e ≢ pos 0 → Kept (key e)) es
+    pub join_keys : ((k k' : K) → Kept k → Kept k' → k ≢ k' → Q (num k, num k')) → (es : List E) → Distinct (map key es) → All (λ e. count e ≢ pos 0 → Kept (key e)) es
         → All Q (pieces (λ e. num (key e)) count es)
-    join-keys good es dist kept = all_join (λ e. num (key e)) count Q es one
+    join_keys good es dist kept = all_join (λ e. num (key e)) count Q es one
       where
         stays : (e : E) → Memᴰ e es → count e ≢ pos 0 → Kept (key e)
-        stays e m = all-at (λ e. count e ≢ pos 0 → Kept (key e)) m kept
+        stays e m = all_at (λ e. count e ≢ pos 0 → Kept (key e)) m kept
 
         both : (e : E) → 0 < below (count e) → 0 < above (count e) → ⊥
         both e p q = elim (one_side (count e)) [ inl z ↦ omega arith | inr z ↦ omega arith ]
@@ -83,4 +83,4 @@ module _ {E K : Type 0} (key : E → K) where
         one : (e d : E) → Memᴰ e es → Memᴰ d es → 0 < below (count e) → 0 < above (count d) → Q (num (key e), num (key d))
         one e d i j p q =
             good (key e) (key d) (stays e i (λ z. omega (arith, ap below z))) (stays d j (λ z. omega (arith, ap above z)))
-            (λ k. both e p (subst (λ d. 0 < above (count d)) (sym (same-element es dist e d i j k)) q))
+            (λ k. both e p (subst (λ d. 0 < above (count d)) (sym (same_element es dist e d i j k)) q))

@@ -12,80 +12,80 @@ use lib.Dec.{T}
 use lib.ListN.{length, get_or, take, drop, length-append, length-drop, length-map, get_or-append, get_or-map}
 use lib.Seq.{get_or-append-add, get_or_at, take_all}
 use Rattle.list_words.specs.Lists.{up_to, keep, before}
-use Rattle.list_words.proofs.Sums.{All, all-at, getD-within}
+use Rattle.list_words.proofs.Sums.{All, all_at, get_or_within}
 use Rattle.list_words.proofs.Tests.{T_of}
-use Rattle.list_words.proofs.UpTo.{Distinct, length-upTo, upTo-first, flat-upTo-suc}
+use Rattle.list_words.proofs.UpTo.{Distinct, length_up_to, up_to_first, flat_up_to_suc}
 
 -- ---- an element by its place
 module _ {A : Type 0} where
-  pub mem-getD : (l : List A) (i : ℕ) (d : A) → i < length l → Memᴰ (get_or l i d) l
-  mem-getD [] i d h = absurd (omega arith)
-  mem-getD (x ∷ l) zero d h = Memᴰ.head refl
-  mem-getD (x ∷ l) (suc i) d h = Memᴰ.tail (mem-getD l i d (omega arith))
+  pub mem_get_or : (l : List A) (i : ℕ) (d : A) → i < length l → Memᴰ (get_or l i d) l
+  mem_get_or [] i d h = absurd (omega arith)
+  mem_get_or (x ∷ l) zero d h = Memᴰ.head refl
+  mem_get_or (x ∷ l) (suc i) d h = Memᴰ.tail (mem_get_or l i d (omega arith))
 
   pub all_get_d : (p : A → Type 0) (l : List A) (i : ℕ) (d : A) → All p l → i < length l → p (get_or l i d)
-  all_get_d p l i d a h = all-at p (mem-getD l i d h) a
+  all_get_d p l i d a h = all_at p (mem_get_or l i d h) a
 
   -- behind n elements
-  pub getD-behind : (s t : List A) (n i : ℕ) (d : A) → length s ≡ n → get_or (s ++ t) (n + i) d ≡ get_or t i d
-  getD-behind s t n i d e = rw (← e) (get_or-append-add s t i d)
+  pub get_or_behind : (s t : List A) (n i : ℕ) (d : A) → length s ≡ n → get_or (s ++ t) (n + i) d ≡ get_or t i d
+  get_or_behind s t n i d e = rw (← e) (get_or-append-add s t i d)
 
 module _ {A B : Type 0} where
   -- what stands at a place of a mapped list
   pub at_map : (f : A → B) (l : List A) (i : ℕ) (d : B) (x : A) → i < length l → get_or (map f l) i d ≡ f (get_or l i x)
-  at_map f l i d x h = getD-within (map f l) i d (f x) (rw (length-map l f) h) ∙ get_or-map f l i x
+  at_map f l i d x h = get_or_within (map f l) i d (f x) (rw (length-map l f) h) ∙ get_or-map f l i x
 
   -- a list by its places
-  pub by-places : (f : A → B) (l : List A) (d : A) → map (λ i. f (get_or l i d)) (up_to (length l)) ≡ map f l
+  pub by_places : (f : A → B) (l : List A) (d : A) → map (λ i. f (get_or l i d)) (up_to (length l)) ≡ map f l
   unfolding up_to
-  by-places f [] d = refl
-  by-places f (x ∷ l) d =
+  by_places f [] d = refl
+  by_places f (x ∷ l) d =
       let at : ℕ → B = λ i. f (get_or (x ∷ l) i d) in
-      ap (map at) (upTo-first (length l)) ∙ ap (λ r. f x ∷ r) (map-map at suc (up_to (length l)) ∙ by-places f l d)
+      ap (map at) (up_to_first (length l)) ∙ ap (λ r. f x ∷ r) (map-map at suc (up_to (length l)) ∙ by_places f l d)
 
   -- ---- blocks of n
   module _ (f : A → List B) (n : ℕ) (even : (x : A) → length (f x) ≡ n) where
-    pub length-blocks : (l : List A) → length (flat_map f l) ≡ length l * n
+    pub length_blocks : (l : List A) → length (flat_map f l) ≡ length l * n
     unfolding flat_map
-    length-blocks [] = omega arith
-    length-blocks (x ∷ l) = omega (arith, length-append (f x) (flat_map f l), even x, length-blocks l)
+    length_blocks [] = omega arith
+    length_blocks (x ∷ l) = omega (arith, length-append (f x) (flat_map f l), even x, length_blocks l)
 
-    pub getD-blocks : (l : List A) (i j : ℕ) (d : B) (y : A) → i < length l → j < n → get_or (flat_map f l) (i * n + j) d ≡ get_or (f (get_or l i y)) j d
+    pub get_or_blocks : (l : List A) (i j : ℕ) (d : B) (y : A) → i < length l → j < n → get_or (flat_map f l) (i * n + j) d ≡ get_or (f (get_or l i y)) j d
     unfolding flat_map
-    getD-blocks [] i j d y h k = absurd (omega arith)
-    getD-blocks (x ∷ l) zero j d y h k =
+    get_or_blocks [] i j d y h k = absurd (omega arith)
+    get_or_blocks (x ∷ l) zero j d y h k =
         let e : 0 * n + j ≡ j = omega arith in
         rw e (get_or-append (f x) (flat_map f l) d j (omega (arith, even x)))
-    getD-blocks (x ∷ l) (suc i) j d y h k =
+    get_or_blocks (x ∷ l) (suc i) j d y h k =
         let e : suc i * n + j ≡ n + (i * n + j) = omega arith in
-        rw e (getD-behind (f x) (flat_map f l) n (i * n + j) d (even x) ∙ getD-blocks l i j d y (omega arith) k)
+        rw e (get_or_behind (f x) (flat_map f l) n (i * n + j) d (even x) ∙ get_or_blocks l i j d y (omega arith) k)
 
 -- ---- the numbers below n
-pub getD-upTo : (n i d : ℕ) → i < n → get_or (up_to n) i d ≡ i
+pub get_or_up_to : (n i d : ℕ) → i < n → get_or (up_to n) i d ≡ i
 unfolding up_to
-getD-upTo zero i d h = absurd (omega arith)
-getD-upTo (suc n) i d h = elim (dec_lt i n) [
-  | yes l ↦ get_or-append (up_to n) (n ∷ []) d i (omega (arith, length-upTo n)) ∙ getD-upTo n i d l
-  | no k ↦ let e : n ≡ i = omega arith in get_or_at (up_to n) n [] d i (length-upTo n ∙ e) ∙ e
+get_or_up_to zero i d h = absurd (omega arith)
+get_or_up_to (suc n) i d h = elim (dec_lt i n) [
+  | yes l ↦ get_or-append (up_to n) (n ∷ []) d i (omega (arith, length_up_to n)) ∙ get_or_up_to n i d l
+  | no k ↦ let e : n ≡ i = omega arith in get_or_at (up_to n) n [] d i (length_up_to n ∙ e) ∙ e
 ]
 
-pub at-upTo : {A : Type 0} (f : ℕ → A) (n i : ℕ) (d : A) → i < n → get_or (map f (up_to n)) i d ≡ f i
-at-upTo f n i d h = at_map f (up_to n) i d 0 (rw (length-upTo n) h) ∙ ap f (getD-upTo n i 0 h)
+pub at_up_to : {A : Type 0} (f : ℕ → A) (n i : ℕ) (d : A) → i < n → get_or (map f (up_to n)) i d ≡ f i
+at_up_to f n i d h = at_map f (up_to n) i d 0 (rw (length_up_to n) h) ∙ ap f (get_or_up_to n i 0 h)
 
-pub flat-upTo-add : {A : Type 0} (f : ℕ → List A) (m n : ℕ) → flat_map f (up_to (m + n)) ≡ flat_map f (up_to m) ++ flat_map (λ i. f (m + i)) (up_to n)
+pub flat_up_to_add : {A : Type 0} (f : ℕ → List A) (m n : ℕ) → flat_map f (up_to (m + n)) ≡ flat_map f (up_to m) ++ flat_map (λ i. f (m + i)) (up_to n)
 unfolding up_to flat_map
-flat-upTo-add f m zero = rw (add-zero, append-nil)
-flat-upTo-add f m (suc n) =
-    rw (add-suc m n) (flat-upTo-suc f (m + n)
-    ∙ ap (λ r. r ++ f (m + n)) (flat-upTo-add f m n)
+flat_up_to_add f m zero = rw (add-zero, append-nil)
+flat_up_to_add f m (suc n) =
+    rw (add-suc m n) (flat_up_to_suc f (m + n)
+    ∙ ap (λ r. r ++ f (m + n)) (flat_up_to_add f m n)
     ∙ append_assoc (flat_map f (up_to m)) (flat_map (λ i. f (m + i)) (up_to n)) (f (m + n))
-    ∙ ap (λ r. flat_map f (up_to m) ++ r) (sym (flat-upTo-suc (λ i. f (m + i)) n)))
+    ∙ ap (λ r. flat_map f (up_to m) ++ r) (sym (flat_up_to_suc (λ i. f (m + i)) n)))
 
 -- ---- an element's place
 module _ {K : Type 0} (eq : K → K → Bool) (sound : (x y : K) → T (eq x y) → x ≡ y) (self : (x : K) → T (eq x x)) where
   pub place_at : (k : K) (l : List K) (d : K) → Memᴰ k l → (length (before eq k l) < length l) × (get_or l (length (before eq k l)) d ≡ k)
   unfolding before
-  place_at k [] d m = absurd (Memᴰ.not-nil m)
+  place_at k [] d m = absurd (Memᴰ.not_nil m)
   place_at k (x ∷ l) d m = go (eq k x) refl (Memᴰ.cases_cons m) (place_at k l d)
     where
       go : (b : Bool) → eq k x ≡ b → (k ≡ x) ⊎ Memᴰ k l → (Memᴰ k l → (length (before eq k l) < length l) × (get_or l (length (before eq k l)) d ≡ k))
@@ -95,15 +95,15 @@ module _ {K : Type 0} (eq : K → K → Bool) (sound : (x y : K) → T (eq x y) 
       go false e (inr m) ih = let r = ih m in (omega (arith, r.0), r.1)
 
   -- where nothing stands twice
-  pub before-take : (l : List K) (i : ℕ) (d : K) → Distinct l → i < length l → before eq (get_or l i d) l ≡ take i l
+  pub before_take : (l : List K) (i : ℕ) (d : K) → Distinct l → i < length l → before eq (get_or l i d) l ≡ take i l
   unfolding before
-  before-take [] i d a h = absurd (omega arith)
-  before-take (x ∷ l) zero d a h = go (eq x x) refl
+  before_take [] i d a h = absurd (omega arith)
+  before_take (x ∷ l) zero d a h = go (eq x x) refl
     where
       go : (b : Bool) → eq x x ≡ b → cond b [] (x ∷ before eq x l) ≡ []
       go true e = refl
       go false e = absurd (subst T e (self x))
-  before-take (x ∷ l) (suc i) d a h = go (eq (get_or l i d) x) refl (before-take l i d a.1 (omega arith))
+  before_take (x ∷ l) (suc i) d a h = go (eq (get_or l i d) x) refl (before_take l i d a.1 (omega arith))
     where
       k : i < length l
       k = omega arith
@@ -113,10 +113,10 @@ module _ {K : Type 0} (eq : K → K → Bool) (sound : (x y : K) → T (eq x y) 
       go false e r = ap (λ s. x ∷ s) r
 
 -- ---- what is kept of a mapped list
-pub take-map : {A B : Type 0} (f : A → B) (i : ℕ) (l : List A) → take i (map f l) ≡ map f (take i l)
-take-map f zero l = refl
-take-map f (suc i) [] = refl
-take-map f (suc i) (x ∷ l) = ap (λ r. f x ∷ r) (take-map f i l)
+pub take_map : {A B : Type 0} (f : A → B) (i : ℕ) (l : List A) → take i (map f l) ≡ map f (take i l)
+take_map f zero l = refl
+take_map f (suc i) [] = refl
+take_map f (suc i) (x ∷ l) = ap (λ r. f x ∷ r) (take_map f i l)
 
 pub kept_map : {A B : Type 0} (f : A → B) (p : B → Bool) (l : List A) → length (keep p (map f l)) ≡ length (keep (λ x. p (f x)) l)
 unfolding keep

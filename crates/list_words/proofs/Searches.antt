@@ -6,8 +6,8 @@ use Prim.Native.Nat.{ℕ, zero, suc, ◌<◌}
 use native.Mathlib.Omega.{arith}
 use lib.ListN.{length, get_or}
 use Rattle.list_words.specs.Lists.{any, up_to}
-use Rattle.list_words.proofs.Tests.{true-any}
-use Rattle.list_words.proofs.UpTo.{mem-upTo}
+use Rattle.list_words.proofs.Tests.{true_any}
+use Rattle.list_words.proofs.UpTo.{mem_up_to}
 
 module _ {A : Type 0} (p : A → Bool) where
   pub any_append : (s t : List A) → any p (s ++ t) ≡ any p s || any p t
@@ -30,11 +30,11 @@ module _ {A : Type 0} (p : A → Bool) where
       go false r = r
 
 -- through lists put together from lists
-pub any-flatMap : {A B : Type 0} (p : B → Bool) (g : A → List B) (l : List A) → any p (flat_map g l) ≡ any (λ x. any p (g x)) l
+pub any_flat_map : {A B : Type 0} (p : B → Bool) (g : A → List B) (l : List A) → any p (flat_map g l) ≡ any (λ x. any p (g x)) l
 unfolding any flat_map
-any-flatMap p g [] = refl
-any-flatMap p g (x ∷ l) = any_append p (g x) (flat_map g l) ∙ ap (λ b. any p (g x) || b) (any-flatMap p g l)
+any_flat_map p g [] = refl
+any_flat_map p g (x ∷ l) = any_append p (g x) (flat_map g l) ∙ ap (λ b. any p (g x) || b) (any_flat_map p g l)
 
 -- among the numbers below n
-pub any-upTo-found : (p : ℕ → Bool) (n i : ℕ) → i < n → p i ≡ true → any p (up_to n) ≡ true
-any-upTo-found p n i h e = true-any p (mem-upTo n i h) e
+pub any_up_to_found : (p : ℕ → Bool) (n i : ℕ) → i < n → p i ≡ true → any p (up_to n) ≡ true
+any_up_to_found p n i h e = true_any p (mem_up_to n i h) e

@@ -11,28 +11,28 @@ use mir.Val.{SFits, of_z, to_z}
 use mir.Facts.{to_z-of_z}
 use Rattle.list_words.specs.Lists.{nonzero}
 
-pub neg-size : (a : ℤ) → nat_abs (neg_ℤ a) ≡ nat_abs a
-neg-size (pos zero) = refl
-neg-size (pos (suc n)) = refl
-neg-size (negsuc n) = refl
+pub neg_size : (a : ℤ) → nat_abs (neg_ℤ a) ≡ nat_abs a
+neg_size (pos zero) = refl
+neg_size (pos (suc n)) = refl
+neg_size (negsuc n) = refl
 
 pub fits_16 : (z : ℤ) → nat_abs z ≤ 257 → SFits w16 z
 fits_16 (pos n) h = record { sfits = omega arith }
 fits_16 (negsuc n) h = record { sfits = omega arith }
 
-fits-32 : (z : ℤ) → nat_abs z ≤ 257 → SFits w32 z
-fits-32 (pos n) h = record { sfits = omega arith }
-fits-32 (negsuc n) h = record { sfits = omega arith }
+fits_32 : (z : ℤ) → nat_abs z ≤ 257 → SFits w32 z
+fits_32 (pos n) h = record { sfits = omega arith }
+fits_32 (negsuc n) h = record { sfits = omega arith }
 
-pub back-16 : (z : ℤ) → nat_abs z ≤ 257 → to_z w16 (of_z w16 z) ≡ z
-back-16 z h = to_z-of_z (fits_16 z h)
+pub back_16 : (z : ℤ) → nat_abs z ≤ 257 → to_z w16 (of_z w16 z) ≡ z
+back_16 z h = to_z-of_z (fits_16 z h)
 
-pub back-32 : (z : ℤ) → nat_abs z ≤ 257 → to_z w32 (of_z w32 z) ≡ z
-back-32 z h = to_z-of_z (fits-32 z h)
+pub back_32 : (z : ℤ) → nat_abs z ≤ 257 → to_z w32 (of_z w32 z) ≡ z
+back_32 z h = to_z-of_z (fits_32 z h)
 
 -- `none` is refl at each width
-pub nonzero-test : (w : Width) (none : to_z w 0 ≡ pos 0) (z : ℤ) → SFits w z → not (eqb (of_z w z) 0) ≡ nonzero z
-nonzero-test w none z f = go (eqb (of_z w z) 0) refl
+pub nonzero_test : (w : Width) (none : to_z w 0 ≡ pos 0) (z : ℤ) → SFits w z → not (eqb (of_z w z) 0) ≡ nonzero z
+nonzero_test w none z f = go (eqb (of_z w z) 0) refl
   where
     some : (z : ℤ) → (of_z w z ≡ 0 → ⊥) → true ≡ nonzero z
     some (pos zero) h = absurd (h refl)

@@ -14,9 +14,9 @@ unfoldable pub least : ℕ → List ℕ → ℕ
 least m [] = m
 least m (n ∷ l) = least (min m n) l
 
-abbrev pub one-if : Bool → ℕ
-one-if true = 1
-one-if false = 0
+abbrev pub one_if : Bool → ℕ
+one_if true = 1
+one_if false = 0
 
 -- are two lists of numbers the same
 unfoldable pub same : List ℕ → List ℕ → Bool
@@ -48,7 +48,7 @@ module _ {A : Type 0} where
   -- how often x stands in a list, by a test of equality
   unfoldable pub times : (A → A → Bool) → A → List A → ℕ
   times eq x [] = 0
-  times eq x (y ∷ l) = one-if (eq x y) + times eq x l
+  times eq x (y ∷ l) = one_if (eq x y) + times eq x l
 
   -- what stands before the first x
   unfoldable pub before : (A → A → Bool) → A → List A → List A

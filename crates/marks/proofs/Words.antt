@@ -20,17 +20,17 @@ use Rattle.marks.specs.Words.{marked, Next}
 abbrev digit : ℕ → ℕ → ℕ
 digit w i = w / 2 ^ i % 2
 
-less-div : (a b : ℕ) → a < b → a / b ≡ 0
-less-div a b h = let p : 0 < b = omega arith in let k : a < 1 * b = omega arith in let e : a / b < 1 = (div-lt_iff_lt-mul p).1 k in omega arith
+less_div : (a b : ℕ) → a < b → a / b ≡ 0
+less_div a b h = let p : 0 < b = omega arith in let k : a < 1 * b = omega arith in let e : a / b < 1 = (div-lt_iff_lt-mul p).1 k in omega arith
 
-digit-same : (k : ℕ) → digit (2 ^ k) k ≡ 1
-digit-same k =
+digit_same : (k : ℕ) → digit (2 ^ k) k ≡ 1
+digit_same k =
     let e : 2 ^ k / 2 ^ k ≡ 1 = ap (λ n. n / 2 ^ k) (omega arith) ∙ shl-shr 1 k in
     ap (λ n. n % 2) e
 
-digit-other : (k i : ℕ) → k ≢ i → digit (2 ^ k) i ≡ 0
-digit-other k i n = elim (dec_lt k i) [
-  | yes h ↦ ap (λ m. m % 2) (less-div (2 ^ k) (2 ^ i) (pow-lt h))
+digit_other : (k i : ℕ) → k ≢ i → digit (2 ^ k) i ≡ 0
+digit_other k i n = elim (dec_lt k i) [
+  | yes h ↦ ap (λ m. m % 2) (less_div (2 ^ k) (2 ^ i) (pow-lt h))
   | no m ↦
       let d : k ≡ suc (k - i - 1) + i = omega arith in
       let e : 2 ^ k ≡ 2 ^ suc (k - i - 1) * 2 ^ i = ap (λ n. 2 ^ n) d ∙ pow-add 2 (suc (k - i - 1)) i in
@@ -41,9 +41,9 @@ digit_or : (a b i : ℕ) → digit (bit_or a b) i ≡ max (digit a i) (digit b i
 digit_or a b i = ap (λ n. n % 2) (or_shr a b i) ∙ omega (arith, or_step (a / 2 ^ i) (b / 2 ^ i))
 
 -- ---- a mark
-pub marked-set : (l : List ℕ) (i j : ℕ) → i < 64 * length l → marked (set l (i / 64) (bit_or (get_or l (i / 64) 0) (2 ^ (i % 64)))) j ≡ (eqb i j || marked l j)
+pub marked_set : (l : List ℕ) (i j : ℕ) → i < 64 * length l → marked (set l (i / 64) (bit_or (get_or l (i / 64) 0) (2 ^ (i % 64)))) j ≡ (eqb i j || marked l j)
 unfolding marked
-marked-set l i j h = elim (ℕ_discrete (i / 64) (j / 64)) [ yes e ↦ same e | no n ↦ other n ]
+marked_set l i j h = elim (ℕ_discrete (i / 64) (j / 64)) [ yes e ↦ same e | no n ↦ other n ]
   where
     w : ℕ
     w = get_or l (i / 64) 0
@@ -57,8 +57,8 @@ marked-set l i j h = elim (ℕ_discrete (i / 64) (j / 64)) [ yes e ↦ same e | 
 
     pick : i / 64 ≡ j / 64 → eqb (digit (bit_or w (2 ^ (i % 64))) (j % 64)) 1 ≡ (eqb i j || eqb x 1)
     pick e = elim (ℕ_discrete (i % 64) (j % 64)) [
-      | yes d ↦ both 1 true (ap (digit (2 ^ (i % 64))) (sym d) ∙ digit-same (i % 64)) (eq-eqb i j (omega arith)) (eq-eqb (max x 1) 1 (omega arith))
-      | no n ↦ both 0 false (digit-other (i % 64) (j % 64) n) (ne_eqb i j (λ q. n (ap (λ m. m % 64) q))) (let z : max x 0 ≡ x = omega arith in ap (λ m. eqb m 1) z)
+      | yes d ↦ both 1 true (ap (digit (2 ^ (i % 64))) (sym d) ∙ digit_same (i % 64)) (eq-eqb i j (omega arith)) (eq-eqb (max x 1) 1 (omega arith))
+      | no n ↦ both 0 false (digit_other (i % 64) (j % 64) n) (ne_eqb i j (λ q. n (ap (λ m. m % 64) q))) (let z : max x 0 ≡ x = omega arith in ap (λ m. eqb m 1) z)
     ]
 
     same : i / 64 ≡ j / 64 → eqb (digit (get_or (set l (i / 64) (bit_or w (2 ^ (i % 64)))) (j / 64) 0) (j % 64)) 1 ≡ (eqb i j || eqb (digit (get_or l (j / 64) 0) (j % 64)) 1)
@@ -80,10 +80,10 @@ tz_odd (suc d) q h k = go (q % 2) refl (λ e. tz_odd d (q / 2) (omega arith) ((d
         ap (λ (x : ℕ). x % 2) (ap (λ (x : ℕ). q / x) (pow-succ' 2 t) ∙ sym (div-div-eq-div-mul q 2 (2 ^ t))) ∙ ih e
     go (suc r) e ih = ap (λ (x : ℕ). x % 2) (div-one q) ∙ omega arith
 
-tz-even : (k n d : ℕ) → d < count_trailing_zeros k n → digit n d ≡ 0
+tz_even : (k n d : ℕ) → d < count_trailing_zeros k n → digit n d ≡ 0
 unfolding count_trailing_zeros
-tz-even zero n d h = absurd (omega arith)
-tz-even (suc k) n d h = go (n % 2) refl d h (tz-even k (n / 2))
+tz_even zero n d h = absurd (omega arith)
+tz_even (suc k) n d h = go (n % 2) refl d h (tz_even k (n / 2))
   where
     go : (r : ℕ) → n % 2 ≡ r → (d : ℕ) → d < under r (count_trailing_zeros k (n / 2)) → ((d : ℕ) → d < count_trailing_zeros k (n / 2) → digit (n / 2) d ≡ 0) → digit n d ≡ 0
     go zero e zero h ih = ap (λ (x : ℕ). x % 2) (div-one n) ∙ e
@@ -104,28 +104,28 @@ module _ (l : List ℕ) (at : ℕ) where
   abbrev pub rest_of : ℕ
   rest_of = get_or l (at / 64) 0 / 2 ^ (at % 64)
 
-  in-word : (d : ℕ) → at % 64 + d < 64 → marked l (at + d) ≡ eqb (digit rest_of d) 1
+  in_word : (d : ℕ) → at % 64 + d < 64 → marked l (at + d) ≡ eqb (digit rest_of d) 1
   unfolding marked
-  in-word d h =
+  in_word d h =
       let e : (at + d) / 64 ≡ at / 64 = omega arith in
       let f : (at + d) % 64 ≡ at % 64 + d = omega arith in
       rw (e, f, shr-shr (get_or l (at / 64) 0) (at % 64) d)
 
   unmarked : (d : ℕ) → at % 64 + d < 64 → digit rest_of d ≡ 0 → marked l (at + d) ≡ false
-  unmarked d h e = in-word d h ∙ ap (λ n. eqb n 1) e ∙ ne_eqb 0 1 (λ q. omega arith)
+  unmarked d h e = in_word d h ∙ ap (λ n. eqb n 1) e ∙ ne_eqb 0 1 (λ q. omega arith)
 
   module _ {from end : ℕ} (clear : Clear l from end at) where
     -- up to the digit t of the rest
-    clear-to : (t : ℕ) → at % 64 + t ≤ 64 → ((d : ℕ) → d < t → digit rest_of d ≡ 0) → Clear l from end (at + t)
-    clear-to t h z i a b c = elim (dec_lt i at) [
+    clear_to : (t : ℕ) → at % 64 + t ≤ 64 → ((d : ℕ) → d < t → digit rest_of d ≡ 0) → Clear l from end (at + t)
+    clear_to t h z i a b c = elim (dec_lt i at) [
       | yes k ↦ clear i a k c
       | no n ↦ let e : i ≡ at + (i - at) = omega arith in rw e (unmarked (i - at) (omega arith) (z (i - at) (omega arith)))
     ]
 
-    pub clear-word : rest_of ≡ 0 → Clear l from end (64 * (at / 64) + 64)
-    clear-word e =
+    pub clear_word : rest_of ≡ 0 → Clear l from end (64 * (at / 64) + 64)
+    clear_word e =
         let q : 64 * (at / 64) + 64 ≡ at + (64 - at % 64) = omega arith in
-        subst (Clear l from end) (sym q) (clear-to (64 - at % 64) (omega arith) (λ d h. ap (λ n. n / 2 ^ d % 2) e ∙ ap (λ n. n % 2) (zero-div (2 ^ d))))
+        subst (Clear l from end) (sym q) (clear_to (64 - at % 64) (omega arith) (λ d h. ap (λ n. n / 2 ^ d % 2) e ∙ ap (λ n. n % 2) (zero-div (2 ^ d))))
 
     module _ (some : rest_of ≡ 0 → ⊥) (fits : get_or l (at / 64) 0 < 2 ^ 64) where
       abbrev first : ℕ
@@ -139,7 +139,7 @@ module _ (l : List ℕ) (at : ℕ) where
         | yes h ↦ h
         | no n ↦
             let k : 64 ≤ at % 64 + first = omega arith in
-            let z : get_or l (at / 64) 0 / 2 ^ (at % 64 + first) ≡ 0 = less-div _ _ (lt_of_lt_of_le fits (pow-le-pow_right (zero-lt-suc 1) k)) in
+            let z : get_or l (at / 64) 0 / 2 ^ (at % 64 + first) ≡ 0 = less_div _ _ (lt_of_lt_of_le fits (pow-le-pow_right (zero-lt-suc 1) k)) in
             let o : get_or l (at / 64) 0 / 2 ^ (at % 64 + first) % 2 ≡ 1 = rw (← shr-shr (get_or l (at / 64) 0) (at % 64) first) odd in
             absurd (omega arith)
       ]
@@ -148,39 +148,39 @@ module _ (l : List ℕ) (at : ℕ) where
       first_small = omega (arith, inside)
 
       clear_first : Clear l from end (at + first)
-      clear_first = clear-to first (omega (arith, inside)) (λ d h. tz-even 64 rest_of d h)
+      clear_first = clear_to first (omega (arith, inside)) (λ d h. tz_even 64 rest_of d h)
 
-      pub next-in : from ≤ at → at + first < end → Next l from end (at + first)
-      next-in low h =
+      pub next_in : from ≤ at → at + first < end → Next l from end (at + first)
+      next_in low h =
           record {
             low = omega arith;
             high = omega arith;
             clear = λ i a b. clear_first i a b (omega arith);
-            found = λ k. in-word first inside ∙ ap (λ n. eqb n 1) odd;
+            found = λ k. in_word first inside ∙ ap (λ n. eqb n 1) odd;
           }
 
-      pub next-out : from ≤ end → end ≤ at + first → Next l from end end
-      next-out low h = record { low = low; high = omega arith; clear = λ i a b. clear_first i a (omega arith) b; found = λ k. absurd (omega arith) }
+      pub next_out : from ≤ end → end ≤ at + first → Next l from end end
+      next_out low h = record { low = low; high = omega arith; clear = λ i a b. clear_first i a (omega arith) b; found = λ k. absurd (omega arith) }
 
-    pub next-none : from ≤ end → end ≤ at → Next l from end end
-    next-none low h = record { low = low; high = omega arith; clear = λ i a b. clear i a (omega arith) b; found = λ k. absurd (omega arith) }
+    pub next_none : from ≤ end → end ≤ at → Next l from end end
+    next_none low h = record { low = low; high = omega arith; clear = λ i a b. clear i a (omega arith) b; found = λ k. absurd (omega arith) }
 
 -- ---- four words of which none has a digit
-or-zero : (a b : ℕ) → bit_or a b ≡ 0 → (a ≡ 0) × (b ≡ 0)
-or-zero a b h = let s = or_add_and a b in let l = and_le_l a b in let r = and_le_r a b in (omega arith, omega arith)
+or_zero : (a b : ℕ) → bit_or a b ≡ 0 → (a ≡ 0) × (b ≡ 0)
+or_zero a b h = let s = or_add_and a b in let l = and_le_l a b in let r = and_le_r a b in (omega arith, omega arith)
 
-word-clear : (l : List ℕ) (i : ℕ) → get_or l (i / 64) 0 ≡ 0 → marked l i ≡ false
+word_clear : (l : List ℕ) (i : ℕ) → get_or l (i / 64) 0 ≡ 0 → marked l i ≡ false
 unfolding marked
-word-clear l i e = ap (λ n. eqb (n / 2 ^ (i % 64) % 2) 1) e ∙ ap (λ n. eqb (n % 2) 1) (zero-div (2 ^ (i % 64))) ∙ ne_eqb 0 1 (λ q. omega arith)
+word_clear l i e = ap (λ n. eqb (n / 2 ^ (i % 64) % 2) 1) e ∙ ap (λ n. eqb (n % 2) 1) (zero-div (2 ^ (i % 64))) ∙ ne_eqb 0 1 (λ q. omega arith)
 
-pub four-clear : (l : List ℕ) (from end : ℕ) → from % 64 ≡ 0 → from ≤ end → end ≤ from + 256
+pub four_clear : (l : List ℕ) (from end : ℕ) → from % 64 ≡ 0 → from ≤ end → end ≤ from + 256
     → bit_or (bit_or (bit_or (get_or l (from / 64) 0) (get_or l (from / 64 + 1) 0)) (get_or l (from / 64 + 2) 0)) (get_or l (from / 64 + 3) 0) ≡ 0 → Next l from end end
-four-clear l from end m low high z =
+four_clear l from end m low high z =
     let w = from / 64 in
-    let p = or-zero (bit_or (bit_or (get_or l w 0) (get_or l (w + 1) 0)) (get_or l (w + 2) 0)) (get_or l (w + 3) 0) z in
-    let q = or-zero (bit_or (get_or l w 0) (get_or l (w + 1) 0)) (get_or l (w + 2) 0) p.0 in
-    let r = or-zero (get_or l w 0) (get_or l (w + 1) 0) q.0 in
-    record { low = low; high = omega arith; clear = λ i a b. word-clear l i (pick i a b r.0 r.1 q.1 p.1); found = λ k. absurd (omega arith) }
+    let p = or_zero (bit_or (bit_or (get_or l w 0) (get_or l (w + 1) 0)) (get_or l (w + 2) 0)) (get_or l (w + 3) 0) z in
+    let q = or_zero (bit_or (get_or l w 0) (get_or l (w + 1) 0)) (get_or l (w + 2) 0) p.0 in
+    let r = or_zero (get_or l w 0) (get_or l (w + 1) 0) q.0 in
+    record { low = low; high = omega arith; clear = λ i a b. word_clear l i (pick i a b r.0 r.1 q.1 p.1); found = λ k. absurd (omega arith) }
   where
     pick : (i : ℕ) → from ≤ i → i < end → get_or l (from / 64) 0 ≡ 0 → get_or l (from / 64 + 1) 0 ≡ 0 → get_or l (from / 64 + 2) 0 ≡ 0 → get_or l (from / 64 + 3) 0 ≡ 0 → get_or l (i / 64) 0 ≡ 0
     pick i a b z0 z1 z2 z3 = elim (dec_lt i (from + 64)) [

@@ -12,23 +12,23 @@ use lib.Ieee.{Float, nan, inf, fin, binary64, of_bits, to_bits, is_nan, div}
 use lib.Ieee.Bits.{of_bits-to_bits, to_bits-lt, of_bits-fits, to_bits-of_bits}
 use Rattle.list_words.proofs.Sums.{All, all_take, all_drop}
 use Rattle.list_words.proofs.Tests.{never}
-use Rattle.numbers.specs.Numbers.{Byte, F64, number, number_at, float_at, bytes, float-bytes}
+use Rattle.numbers.specs.Numbers.{Byte, F64, number, number_at, float_at, bytes, float_bytes}
 
 -- ---- whole numbers
-pub number-bytes : (n k : ℕ) → k < 256 ^ n → number (bytes n k) ≡ k
+pub number_bytes : (n k : ℕ) → k < 256 ^ n → number (bytes n k) ≡ k
 unfolding bytes number
-number-bytes zero k h = omega arith
-number-bytes (suc n) k h = ap (λ m. k % 256 + 256 * m) (number-bytes n (k / 256) (omega arith)) ∙ mod-add-div k 256
+number_bytes zero k h = omega arith
+number_bytes (suc n) k h = ap (λ m. k % 256 + 256 * m) (number_bytes n (k / 256) (omega arith)) ∙ mod-add-div k 256
 
-pub length-bytes : (n k : ℕ) → length (bytes n k) ≡ n
+pub length_bytes : (n k : ℕ) → length (bytes n k) ≡ n
 unfolding bytes
-length-bytes zero k = refl
-length-bytes (suc n) k = ap suc (length-bytes n (k / 256))
+length_bytes zero k = refl
+length_bytes (suc n) k = ap suc (length_bytes n (k / 256))
 
-pub all-bytes : (n k : ℕ) → All Byte (bytes n k)
+pub all_bytes : (n k : ℕ) → All Byte (bytes n k)
 unfolding bytes
-all-bytes zero k = tt
-all-bytes (suc n) k = (mod-lt k (lit< tt), all-bytes n (k / 256))
+all_bytes zero k = tt
+all_bytes (suc n) k = (mod-lt k (lit< tt), all_bytes n (k / 256))
 
 grown : (n b k : ℕ) → b < 256 → k < 256 ^ n → b + 256 * k < 256 ^ suc n
 grown n b k h l = omega arith
@@ -38,20 +38,20 @@ unfolding number
 number_lt [] a = lit< tt
 number_lt (b ∷ bs) a = grown (length bs) b (number bs) a.0 (number_lt bs a.1)
 
-pub bytes-number : (bs : List ℕ) → All Byte bs → bytes (length bs) (number bs) ≡ bs
+pub bytes_number : (bs : List ℕ) → All Byte bs → bytes (length bs) (number bs) ≡ bs
 unfolding number bytes
-bytes-number [] a = refl
-bytes-number (b ∷ bs) a =
+bytes_number [] a = refl
+bytes_number (b ∷ bs) a =
     let h : b < 256 = a.0 in
     let low : (b + 256 * number bs) % 256 ≡ b = omega arith in
     let high : (b + 256 * number bs) / 256 ≡ number bs = omega arith in
-    ap₂ ◌∷◌ low (ap (bytes (length bs)) high ∙ bytes-number bs a.1)
+    ap₂ ◌∷◌ low (ap (bytes (length bs)) high ∙ bytes_number bs a.1)
 
 -- ---- in a list of bytes
 
 -- the n bytes from place i on are not changed by what stands behind them
-pub part-front : (i n : ℕ) (bs rest : List ℕ) → i + n ≤ length bs → take n (drop i (bs ++ rest)) ≡ take n (drop i bs)
-part-front i n bs rest h =
+pub part_front : (i n : ℕ) (bs rest : List ℕ) → i + n ≤ length bs → take n (drop i (bs ++ rest)) ≡ take n (drop i bs)
+part_front i n bs rest h =
     let a : i ≤ length bs = omega arith in
     let b : n ≤ length (drop i bs) = rw length-drop (omega arith) in
     rw (drop-append-le i bs rest a) (take-append-le n (drop i bs) rest b)
@@ -60,77 +60,77 @@ pub length_part : (i n : ℕ) (bs : List ℕ) → i + n ≤ length bs → length
 length_part i n bs h = length-take-le n (drop i bs) (rw length-drop (omega arith))
 
 -- a number's bytes, with anything in front and behind
-pub number-there : (i n k : ℕ) (front rest : List ℕ) → length front ≡ i → k < 256 ^ n → number_at i n (front ++ (bytes n k ++ rest)) ≡ k
+pub number_there : (i n k : ℕ) (front rest : List ℕ) → length front ≡ i → k < 256 ^ n → number_at i n (front ++ (bytes n k ++ rest)) ≡ k
 unfolding number_at
-number-there i n k front rest l h =
-    ap number (ap (take n) (drop_at front (bytes n k ++ rest) i l) ∙ take_at (bytes n k) rest n (length-bytes n k)) ∙ number-bytes n k h
+number_there i n k front rest l h =
+    ap number (ap (take n) (drop_at front (bytes n k ++ rest) i l) ∙ take_at (bytes n k) rest n (length_bytes n k)) ∙ number_bytes n k h
 
-pub number-front : (i n : ℕ) (bs rest : List ℕ) → i + n ≤ length bs → number_at i n (bs ++ rest) ≡ number_at i n bs
+pub number_front : (i n : ℕ) (bs rest : List ℕ) → i + n ≤ length bs → number_at i n (bs ++ rest) ≡ number_at i n bs
 unfolding number_at
-number-front i n bs rest h = ap number (part-front i n bs rest h)
+number_front i n bs rest h = ap number (part_front i n bs rest h)
 
-pub float-front : (i : ℕ) (bs rest : List ℕ) → i + 8 ≤ length bs → float_at i (bs ++ rest) ≡ float_at i bs
+pub float_front : (i : ℕ) (bs rest : List ℕ) → i + 8 ≤ length bs → float_at i (bs ++ rest) ≡ float_at i bs
 unfolding float_at
-float-front i bs rest h = ap (of_bits binary64) (number-front i 8 bs rest h)
+float_front i bs rest h = ap (of_bits binary64) (number_front i 8 bs rest h)
 
-pub number-at-lt : (i n : ℕ) (bs : List ℕ) → All Byte bs → i + n ≤ length bs → number_at i n bs < 256 ^ n
+pub number_at_lt : (i n : ℕ) (bs : List ℕ) → All Byte bs → i + n ≤ length bs → number_at i n bs < 256 ^ n
 unfolding number_at
-number-at-lt i n bs a h =
+number_at_lt i n bs a h =
     subst (λ k. number (take n (drop i bs)) < 256 ^ k) (length_part i n bs h)
     (number_lt (take n (drop i bs)) (all_take Byte n (drop i bs) (all_drop Byte i bs a)))
 
-pub bytes-at : (i n : ℕ) (bs : List ℕ) → All Byte bs → i + n ≤ length bs → bytes n (number_at i n bs) ≡ take n (drop i bs)
+pub bytes_at : (i n : ℕ) (bs : List ℕ) → All Byte bs → i + n ≤ length bs → bytes n (number_at i n bs) ≡ take n (drop i bs)
 unfolding number_at
-bytes-at i n bs a h =
+bytes_at i n bs a h =
     subst (λ k. bytes k (number (take n (drop i bs))) ≡ take n (drop i bs)) (length_part i n bs h)
-    (bytes-number (take n (drop i bs)) (all_take Byte n (drop i bs) (all_drop Byte i bs a)))
+    (bytes_number (take n (drop i bs)) (all_take Byte n (drop i bs) (all_drop Byte i bs a)))
 
 -- ---- read from the last byte to the first
 module _ (at n i : ℕ) (bs : List ℕ) (some : 0 < i) (within : i ≤ n) (room : at + n ≤ length bs) where
-  pub number-before : number_at (at + (i - 1)) (n - (i - 1)) bs ≡ get_or bs (at + (i - 1)) 0 + 256 * number_at (at + i) (n - i) bs
+  pub number_before : number_at (at + (i - 1)) (n - (i - 1)) bs ≡ get_or bs (at + (i - 1)) 0 + 256 * number_at (at + i) (n - i) bs
   unfolding number_at number
-  number-before =
+  number_before =
       let e : n - (i - 1) ≡ suc (n - i) = omega arith in
       let f : at + i ≡ suc (at + (i - 1)) = omega arith in
       let h : at + (i - 1) < length bs = omega arith in
       rw (e, f, drop-cons bs (at + (i - 1)) 0 h)
 
-  pub before-lt : {b k : ℕ} → b < 256 → k < 256 ^ (n - i) → b + 256 * k < 256 ^ (n - (i - 1))
-  before-lt {b} {k} h l =
+  pub before_lt : {b k : ℕ} → b < 256 → k < 256 ^ (n - i) → b + 256 * k < 256 ^ (n - (i - 1))
+  before_lt {b} {k} h l =
       let e : n - (i - 1) ≡ suc (n - i) = omega arith in
       rw e (grown (n - i) b k h l)
 
 -- ---- stored from the first byte to the last: what is left to store
 module _ (l : List ℕ) (at n i rest : ℕ) where
-  pub left-to-put : i < n → sets (set l (at + i) (rest % 256)) (at + (i + 1)) (bytes (n - (i + 1)) (rest / 256)) ≡ sets l (at + i) (bytes (n - i) rest)
+  pub left_to_put : i < n → sets (set l (at + i) (rest % 256)) (at + (i + 1)) (bytes (n - (i + 1)) (rest / 256)) ≡ sets l (at + i) (bytes (n - i) rest)
   unfolding bytes
-  left-to-put h =
+  left_to_put h =
       let e : n - i ≡ suc (n - (i + 1)) = omega arith in
       let f : at + (i + 1) ≡ suc (at + i) = omega arith in
       rw (e, f)
 
-  pub all-put : n ≤ i → sets l (at + i) (bytes (n - i) rest) ≡ l
+  pub all_put : n ≤ i → sets l (at + i) (bytes (n - i) rest) ≡ l
   unfolding bytes
-  all-put h = let e : n - i ≡ 0 = omega arith in rw e
+  all_put h = let e : n - i ≡ 0 = omega arith in rw e
 
 -- up to 8 bytes
 pub fits_8 : (n : ℕ) {k : ℕ} → n ≤ 8 → k < 256 ^ n → k < 2 ^ 64
 fits_8 n {k} h l = lt_of_lt_of_le l (pow-le-pow_right (lit< tt) h)
 
 -- ---- f64
-pub length-float-bytes : (x : Float) → length (float-bytes x) ≡ 8
-unfolding float-bytes
-length-float-bytes x = length-bytes 8 _
+pub length_float_bytes : (x : Float) → length (float_bytes x) ≡ 8
+unfolding float_bytes
+length_float_bytes x = length_bytes 8 _
 
-pub all-float-bytes : (x : Float) → All Byte (float-bytes x)
-unfolding float-bytes
-all-float-bytes x = all-bytes 8 _
+pub all_float_bytes : (x : Float) → All Byte (float_bytes x)
+unfolding float_bytes
+all_float_bytes x = all_bytes 8 _
 
 -- Reading an f64's bytes gives the f64, sign of zero and all. Of the NaN too, of which there is one.
-pub float-there : (i : ℕ) (x : Float) (front rest : List ℕ) → length front ≡ i → F64 x → float_at i (front ++ (float-bytes x ++ rest)) ≡ x
-unfolding float_at float-bytes
-float-there i x front rest l h =
-    ap (of_bits binary64) (number-there i 8 (to_bits binary64 x) front rest l (to_bits-lt binary64 x h)) ∙ of_bits-to_bits binary64 x h
+pub float_there : (i : ℕ) (x : Float) (front rest : List ℕ) → length front ≡ i → F64 x → float_at i (front ++ (float_bytes x ++ rest)) ≡ x
+unfolding float_at float_bytes
+float_there i x front rest l h =
+    ap (of_bits binary64) (number_there i 8 (to_bits binary64 x) front rest l (to_bits-lt binary64 x h)) ∙ of_bits-to_bits binary64 x h
 
 -- there is one NaN
 pub the_nan : (x : Float) → is_nan x ≡ true → x ≡ nan
@@ -148,8 +148,8 @@ unfolding float_at
 float_fits i bs = of_bits-fits binary64 (number_at i 8 bs)
 
 -- Writing what was read from 8 bytes gives those bytes, unless they are a NaN's.
-pub float-bytes-at : (i : ℕ) (bs : List ℕ) → All Byte bs → i + 8 ≤ length bs → is_nan (float_at i bs) ≡ false
-    → float-bytes (float_at i bs) ≡ take 8 (drop i bs)
-unfolding float_at float-bytes
-float-bytes-at i bs a h e =
-    ap (bytes 8) (to_bits-of_bits binary64 (number_at i 8 bs) (number-at-lt i 8 bs a h) (rw e tt)) ∙ bytes-at i 8 bs a h
+pub float_bytes_at : (i : ℕ) (bs : List ℕ) → All Byte bs → i + 8 ≤ length bs → is_nan (float_at i bs) ≡ false
+    → float_bytes (float_at i bs) ≡ take 8 (drop i bs)
+unfolding float_at float_bytes
+float_bytes_at i bs a h e =
+    ap (bytes 8) (to_bits-of_bits binary64 (number_at i 8 bs) (number_at_lt i 8 bs a h) (rw e tt)) ∙ bytes_at i 8 bs a h

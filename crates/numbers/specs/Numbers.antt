@@ -29,8 +29,8 @@ bytes zero k = []
 bytes (suc n) k = k % 256 ∷ bytes n (k / 256)
 
 -- "Signs of zero are kept."
-unfoldable pub float-bytes : Float → List ℕ
-float-bytes x = bytes 8 (to_bits binary64 x)
+unfoldable pub float_bytes : Float → List ℕ
+float_bytes x = bytes 8 (to_bits binary64 x)
 
 -- is bit i set, the lowest being bit 0
 unfoldable pub bit : ℕ → ℕ → Bool

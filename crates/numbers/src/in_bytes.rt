@@ -45,7 +45,7 @@ pub fn put_number(number: u64, n: usize, bytes: &mut [u8], at: usize)
 
 pub fn put_float(x: f64, bytes: &mut [u8], at: usize)
     requires { (at + 8 ≤ length bytes.old) × (is_nan x ≡ false) }
-    ensures { bytes.new ≡ sets bytes.old at (Nu.float-bytes x) }
+    ensures { bytes.new ≡ sets bytes.old at (Nu.float_bytes x) }
 {
     put_number(f64::to_bits(x), 8, bytes, at);
 }

@@ -19,11 +19,11 @@ pub record Unique : Type 0 where
   -- operations::operate
   pub operate : (code : ℕ) (a b : Solid) (l : Lent) → One (Operate code a b l)
   -- containment::count_as_a and count_as_b
-  pub count-as-a : (v : Point) (s : Solid) → One (CountAsA v s)
-  pub count-as-b : (v : Point) (s : Solid) → One (CountAsB v s)
+  pub count_as_a : (v : Point) (s : Solid) → One (CountAsA v s)
+  pub count_as_b : (v : Point) (s : Solid) → One (CountAsB v s)
   -- admission::admit and admit_point
   pub judged : (s : Solid) → One (Judged s)
-  pub admit-point : (v : Point) → One (AdmitPoint v)
+  pub admit_point : (v : Point) → One (AdmitPoint v)
   -- origins::shown
   pub shown : (a b : Part) (origin : ℕ) → One (Shown a b origin)
   -- housefile_reader::read and housefile_writer::write
@@ -36,4 +36,4 @@ pub record Unique : Type 0 where
   pub printed : (input : List ℕ) → One (Printed input)
   -- capi: `ozoravesh_admit` tells the verdict's number, and origins::copied copies what is shown; the other calls for C cite a relation above
   pub admit : (s : Solid) → One (Admit s)
-  pub shown-copied : (a b : Part) (origin : ℕ) (lent : List ℕ) → One (ShownCopied a b origin lent)
+  pub shown_copied : (a b : Part) (origin : ℕ) (lent : List ℕ) → One (ShownCopied a b origin lent)

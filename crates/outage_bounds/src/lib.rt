@@ -41,13 +41,13 @@ fn some(fault: Fault, r: Row) -> bool
 
 // "becomes the limit, negative for a low"
 fn low(b: Bound) -> f64
-    ensures { result ≡ Bn.low-bound b }
+    ensures { result ≡ Bn.low_bound b }
 {
     if b.flag { -1048576.0 } else { b.value }
 }
 
 fn high(b: Bound) -> f64
-    ensures { result ≡ Bn.high-bound b }
+    ensures { result ≡ Bn.high_bound b }
 {
     if b.flag { 1048576.0 } else { b.value }
 }
@@ -70,14 +70,14 @@ pub fn bounds(r: Row) -> Span
 }
 
 fn not_below(b: Span) -> bool
-    ensures { result ≡ Bn.not-below b }
+    ensures { result ≡ Bn.not_below b }
 {
     !(b.low.x < b.high.x) | !(b.low.y < b.high.y) | !(b.low.z < b.high.z)
 }
 
 // The checks 3, 4, 12 and 13, on nobody.
 pub fn check(r: Row) -> Verdict
-    ensures { result ≡ Ow.check-bounds r }
+    ensures { result ≡ Ow.check_bounds r }
 {
     if some(Fault::Missing, r) {
         return Verdict::Refused(Answer::on_nobody(3));

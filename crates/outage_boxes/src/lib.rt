@@ -19,7 +19,7 @@ fn end(digit: usize, low: f64, high: f64) -> f64
 
 // The corner numbered x + 2y + 4z.
 fn corner(b: Span, n: usize) -> Point
-    ensures { result ≡ Bx.corner-point b n }
+    ensures { result ≡ Bx.corner_point b n }
 {
     Point {
         x: end(n % 2, b.low.x, b.high.x),

@@ -8,7 +8,7 @@ use lib.Ieee.{binary64, of_bits, neg}
 use Rattle.numbers.specs.Numbers.{number, number_at, float_at, bit}
 use Rattle.solids.specs.Admission.{limit}
 use Rattle.outage_rows.specs.Row.{row, bound, no_row}
-use Rattle.outage_rows.specs.Bounds.{low-bound, high-bound, bounds}
+use Rattle.outage_rows.specs.Bounds.{low_bound, high_bound, bounds}
 
 abbrev blank : List ℕ
 blank = 1 ∷ 0 ∷ 0 ∷ 0 ∷ 0 ∷ 0 ∷ 0xf8 ∷ 0x7f ∷ []
@@ -42,5 +42,5 @@ pub given : bounds (row bytes)
       low = record { x = of_bits binary64 0x3ff0000000000000; y = neg limit; z = of_bits binary64 0xbff0000000000000 };
       high = record { x = of_bits binary64 0x4000000000000000; y = of_bits binary64 0x4010000000000000; z = limit };
     }
-unfolding bounds low-bound high-bound row bound float_at number_at number bit
+unfolding bounds low_bound high_bound row bound float_at number_at number bit
 given = refl

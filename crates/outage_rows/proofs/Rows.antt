@@ -8,28 +8,28 @@ use lib.Dec.{eqb}
 use lib.Ieee.{Float, le, lt, neg, is_nan}
 use borrow.Author.Tests.{eqb-true}
 use Rattle.list_words.specs.Lists.{up_to, any, times}
-use Rattle.list_words.proofs.Sums.{All, all-mono, all-flatMap}
-use Rattle.list_words.proofs.Tests.{not-false, or-false, any_false, false-any}
-use Rattle.list_words.proofs.UpTo.{all-upTo}
+use Rattle.list_words.proofs.Sums.{All, all_mono, all_flat_map}
+use Rattle.list_words.proofs.Tests.{not_false, or-false, any_false, false_any}
+use Rattle.list_words.proofs.UpTo.{all_up_to}
 use Rattle.numbers.specs.Numbers.{number, number_at, bit}
 use Rattle.points.specs.declared.Axis.{Axis}
 use Rattle.points.specs.declared.Axis.TheVariants.{X, Y, Z}
 use Rattle.points.specs.Points.{coordinate, coordinates}
 use Rattle.solids.specs.declared.Verdict.TheVariants.{Accepted}
 use Rattle.solids.specs.Refusals.{in_order}
-use Rattle.solids.specs.Solids.{vertices, vertex, half-edges, pairs}
-use Rattle.solids.specs.Admission.{limit, beyond, uneven, too_many, too-high, named-twice, differ, check-blanks, check-limit, check-facet, check-corners, check-closure, admission}
-use Rattle.solids.proofs.Admitted.{by-vertex}
-use Rattle.solids.proofs.Checks.{given-none}
-use Rattle.solids.proofs.Limit.{Near, near, near-number, near_within}
-use Rattle.solids.proofs.Orders.{last-6}
+use Rattle.solids.specs.Solids.{vertices, vertex, half_edges, pairs}
+use Rattle.solids.specs.Admission.{limit, beyond, uneven, too_many, too_high, named_twice, differ, check_blanks, check_limit, check_facet, check_corners, check_closure, admission}
+use Rattle.solids.proofs.Admitted.{by_vertex}
+use Rattle.solids.proofs.Checks.{given_none}
+use Rattle.solids.proofs.Limit.{Near, near, near_number, near_within}
+use Rattle.solids.proofs.Orders.{last_6}
 use Rattle.outage_rows.specs.declared.Bound.{Bound}
 use Rattle.outage_rows.specs.declared.Span.{Span}
-use Rattle.outage_rows.specs.Row.{mark-RW, flags, row, no_row}
-use Rattle.outage_rows.specs.Bounds.{missing, too_far, low-bound, high-bound, bounds, axes, not-below}
-use Rattle.outage_rows.specs.Box.{digit, corner-coordinate, corner-point, box}
-use Rattle.outage_rows.specs.Boxed.{check-row}
-use Rattle.outage_rows.proofs.Computing.{the-rule}
+use Rattle.outage_rows.specs.Row.{mark_RW, flags, row, no_row}
+use Rattle.outage_rows.specs.Bounds.{missing, too_far, low_bound, high_bound, bounds, axes, not_below}
+use Rattle.outage_rows.specs.Box.{digit, corner_coordinate, corner_point, box}
+use Rattle.outage_rows.specs.Boxed.{check_row}
+use Rattle.outage_rows.proofs.Computing.{the_rule}
 use Rattle.outage_rows.proofs.Contains.{end}
 use Rattle.outage_rows.proofs.Refusals.{passed}
 
@@ -38,21 +38,21 @@ pub record Fine (b : Span) : Type 0 where
   pub up : (k : Axis) → lt (coordinate k b.low) (coordinate k b.high) ≡ true
 
 -- ---- one bound: neither blank without its flag nor too far
-near-limit : Near limit
+near_limit : Near limit
 unfolding le lt neg
-near-limit = record { from = refl; to = refl }
+near_limit = record { from = refl; to = refl }
 
-near-low-limit : Near (neg limit)
+near_low_limit : Near (neg limit)
 unfolding le lt neg
-near-low-limit = record { from = refl; to = refl }
+near_low_limit = record { from = refl; to = refl }
 
-near-if : (w : Bool) (x y : Float) → Near x → (w ≡ false → Near y) → Near (cond w x y)
-near-if true x y h k = h
-near-if false x y h k = k refl
+near_if : (w : Bool) (x y : Float) → Near x → (w ≡ false → Near y) → Near (cond w x y)
+near_if true x y h k = h
+near_if false x y h k = k refl
 
-near-value : (b : Bound) → missing b ≡ false → too_far b ≡ false → b.flag ≡ false → Near b.value
+near_value : (b : Bound) → missing b ≡ false → too_far b ≡ false → b.flag ≡ false → Near b.value
 unfolding missing
-near-value b no-3 no-4 e = near b.value (go (is_nan b.value) b.flag no-3 e) no-4
+near_value b no_3 no_4 e = near b.value (go (is_nan b.value) b.flag no_3 e) no_4
   where
     go : (blank flag : Bool) → blank && not flag ≡ false → flag ≡ false → blank ≡ false
     go true true e f = absurd (true≢false f)
@@ -60,65 +60,65 @@ near-value b no-3 no-4 e = near b.value (go (is_nan b.value) b.flag no-3 e) no-4
     go false flag e f = refl
 
 -- whichever limit stands for an open bound
-near-bound : (b : Bound) → missing b ≡ false → too_far b ≡ false → Near (low-bound b) × Near (high-bound b)
-unfolding low-bound high-bound
-near-bound b no-3 no-4 = (
-  near-if b.flag _ b.value (search (near-limit, near-low-limit)) (near-value b no-3 no-4),
-  near-if b.flag _ b.value (search (near-limit, near-low-limit)) (near-value b no-3 no-4),
+near_bound : (b : Bound) → missing b ≡ false → too_far b ≡ false → Near (low_bound b) × Near (high_bound b)
+unfolding low_bound high_bound
+near_bound b no_3 no_4 = (
+  near_if b.flag _ b.value (search (near_limit, near_low_limit)) (near_value b no_3 no_4),
+  near_if b.flag _ b.value (search (near_limit, near_low_limit)) (near_value b no_3 no_4),
 )
 
 -- ---- a row
 pub whole : (bs : List ℕ) → no_row bs ≡ false → length bs ≡ 53
 unfolding no_row
 whole bs e =
-    let (e6, no-7) = or-false _ (bit 7 (flags bs)) e in
-    let (em, no-6) = or-false _ (bit 6 (flags bs)) e6 in
-    eqb-true (length bs) 53 (not-false _ (or-false _ (not (eqb (number_at 0 2 bs) (number mark-RW))) em).0)
+    let (e6, no_7) = or-false _ (bit 7 (flags bs)) e in
+    let (em, no_6) = or-false _ (bit 6 (flags bs)) e6 in
+    eqb-true (length bs) 53 (not_false _ (or-false _ (not (eqb (number_at 0 2 bs) (number mark_RW))) em).0)
 
-pub fine : (bs : List ℕ) → check-row bs ≡ Accepted → Fine (bounds (row bs))
-unfolding bounds not-below
+pub fine : (bs : List ℕ) → check_row bs ≡ Accepted → Fine (bounds (row bs))
+unfolding bounds not_below
 fine bs e =
     let r = row bs in
     let h = passed bs e in
-    let (a0, (a1, (a2, (a3, (a4, (a5, end3)))))) = any_false missing _ h.no-3 in
-    let (b0, (b1, (b2, (b3, (b4, (b5, end4)))))) = any_false too_far _ h.no-4 in
-    let (ux, (uy, (uz, end13))) = any_false _ axes h.no-13 in
+    let (a0, (a1, (a2, (a3, (a4, (a5, end3)))))) = any_false missing _ h.no_3 in
+    let (b0, (b1, (b2, (b3, (b4, (b5, end4)))))) = any_false too_far _ h.no_4 in
+    let (ux, (uy, (uz, end13))) = any_false _ axes h.no_13 in
     record {
       near = λ w k. elim w [
-        | true ↦ elim k [ X ↦ (near-bound r.x.high a1 b1).1 | Y ↦ (near-bound r.y.high a3 b3).1 | Z ↦ (near-bound r.z.high a5 b5).1 ]
-        | false ↦ elim k [ X ↦ (near-bound r.x.low a0 b0).0 | Y ↦ (near-bound r.y.low a2 b2).0 | Z ↦ (near-bound r.z.low a4 b4).0 ]
+        | true ↦ elim k [ X ↦ (near_bound r.x.high a1 b1).1 | Y ↦ (near_bound r.y.high a3 b3).1 | Z ↦ (near_bound r.z.high a5 b5).1 ]
+        | false ↦ elim k [ X ↦ (near_bound r.x.low a0 b0).0 | Y ↦ (near_bound r.y.low a2 b2).0 | Z ↦ (near_bound r.z.low a4 b4).0 ]
       ];
-      up = λ k. elim k [ X ↦ not-false _ ux | Y ↦ not-false _ uy | Z ↦ not-false _ uz ];
+      up = λ k. elim k [ X ↦ not_false _ ux | Y ↦ not_false _ uy | Z ↦ not_false _ uz ];
     }
 
 -- ---- the box of fine bounds
 module _ (b : Span) (h : Fine b) where
-  near-corner : (n : ℕ) (k : Axis) → Near (corner-coordinate b n k)
-  near-corner n k = go (eqb (digit k n) 1)
+  near_corner : (n : ℕ) (k : Axis) → Near (corner_coordinate b n k)
+  near_corner n k = go (eqb (digit k n) 1)
     where
       go : (w : Bool) → Near (cond w (coordinate k b.high) (coordinate k b.low))
       go true = h.near true k
       go false = h.near false k
 
-  near-points : All Near (box b).points
+  near_points : All Near (box b).points
   unfolding box
-  near-points =
-      all-flatMap Near (λ n. coordinates (corner-point b n)) (up_to 8)
-      (all-upTo _ 8 (λ n l. (near-corner n X, (near-corner n Y, (near-corner n Z, tt)))))
+  near_points =
+      all_flat_map Near (λ n. coordinates (corner_point b n)) (up_to 8)
+      (all_up_to _ 8 (λ n l. (near_corner n X, (near_corner n Y, (near_corner n Z, tt)))))
 
   none : (p : Float → Bool) → ((x : Float) → Near x → p x ≡ false) → any (λ i. any p (coordinates (vertex (box b) i))) (up_to (vertices (box b))) ≡ false
-  unfolding the-rule
-  none p near-not = sym (by-vertex (box b) p refl) ∙ false-any p (box b).points (all-mono Near (λ x. p x ≡ false) (box b).points near-not near-points)
+  unfolding the_rule
+  none p near_not = sym (by_vertex (box b) p refl) ∙ false_any p (box b).points (all_mono Near (λ x. p x ≡ false) (box b).points near_not near_points)
 
-  no-3 : check-blanks (box b) ≡ Accepted
-  unfolding check-blanks
-  no-3 = given-none _ _ (vertices (box b)) (none is_nan near-number)
+  no_3 : check_blanks (box b) ≡ Accepted
+  unfolding check_blanks
+  no_3 = given_none _ _ (vertices (box b)) (none is_nan near_number)
 
-  no-4 : check-limit (box b) ≡ Accepted
-  unfolding check-limit
-  no-4 = given-none _ _ (vertices (box b)) (none beyond near_within)
+  no_4 : check_limit (box b) ≡ Accepted
+  unfolding check_limit
+  no_4 = given_none _ _ (vertices (box b)) (none beyond near_within)
 
   -- the lengths, the corners and the half-edges are computed
   pub admitted : admission (box b) ≡ Accepted
-  unfolding the-rule uneven too_many check-facet check-corners check-closure in_order too-high named-twice differ any half-edges pairs times
-  admitted = last-6 (box b) refl refl no-3 no-4 refl Accepted refl
+  unfolding the_rule uneven too_many check_facet check_corners check_closure in_order too_high named_twice differ any half_edges pairs times
+  admitted = last_6 (box b) refl refl no_3 no_4 refl Accepted refl

@@ -27,22 +27,22 @@ unfoldable pub present : Bound → Bool
 present b = b.flag && not (is_nan b.value)
 
 -- "becomes the limit, negative for a low"
-unfoldable pub low-bound : Bound → Float
-low-bound b = cond b.flag (neg limit) b.value
+unfoldable pub low_bound : Bound → Float
+low_bound b = cond b.flag (neg limit) b.value
 
-unfoldable pub high-bound : Bound → Float
-high-bound b = cond b.flag limit b.value
+unfoldable pub high_bound : Bound → Float
+high_bound b = cond b.flag limit b.value
 
 unfoldable pub bounds : Row → Span
 bounds r =
     record {
-      low = record { x = low-bound r.x.low; y = low-bound r.y.low; z = low-bound r.z.low };
-      high = record { x = high-bound r.x.high; y = high-bound r.y.high; z = high-bound r.z.high };
+      low = record { x = low_bound r.x.low; y = low_bound r.y.low; z = low_bound r.z.low };
+      high = record { x = high_bound r.x.high; y = high_bound r.y.high; z = high_bound r.z.high };
     }
 
 abbrev pub axes : List Axis
 axes = X ∷ Y ∷ Z ∷ []
 
 -- 13: "low not below high", on some axis
-unfoldable pub not-below : Span → Bool
-not-below b = any (λ k. not (lt (coordinate k b.low) (coordinate k b.high))) axes
+unfoldable pub not_below : Span → Bool
+not_below b = any (λ k. not (lt (coordinate k b.low) (coordinate k b.high))) axes

@@ -21,11 +21,11 @@ weight Z = 4
 abbrev pub digit : Axis → ℕ → ℕ
 digit k n = n / weight k % 2
 
-abbrev pub corner-coordinate : Span → ℕ → Axis → Float
-corner-coordinate b n k = cond (eqb (digit k n) 1) (coordinate k b.high) (coordinate k b.low)
+abbrev pub corner_coordinate : Span → ℕ → Axis → Float
+corner_coordinate b n k = cond (eqb (digit k n) 1) (coordinate k b.high) (coordinate k b.low)
 
-abbrev pub corner-point : Span → ℕ → Point
-corner-point b n = record { x = corner-coordinate b n X; y = corner-coordinate b n Y; z = corner-coordinate b n Z }
+abbrev pub corner_point : Span → ℕ → Point
+corner_point b n = record { x = corner_coordinate b n X; y = corner_coordinate b n Y; z = corner_coordinate b n Z }
 
 -- ---- "Faces come low before high for x, y, z"
 
@@ -37,8 +37,8 @@ unfoldable pub faces : List Face
 faces = flat_map (λ k. (k, 0) ∷ (k, 1) ∷ []) axes
 
 -- its four corners, the lowest first
-unfoldable pub face-corners : Face → List ℕ
-face-corners f = keep (λ n. eqb (digit f.0 n) f.1) (up_to 8)
+unfoldable pub face_corners : Face → List ℕ
+face_corners f = keep (λ n. eqb (digit f.0 n) f.1) (up_to 8)
 
 -- ---- "each turned outward and starting at its lowest corner"
 
@@ -65,8 +65,8 @@ triangle f p q r = cond (outward f p q r) (p ∷ q ∷ r ∷ []) (p ∷ r ∷ q 
 -- "each is cut by the diagonal through its lowest corner, the triangle with the face's second-lowest corner first": the diagonal ends at the highest
 unfoldable pub cut : Face → List ℕ
 cut f =
-    let c : ℕ → ℕ = λ i. get_or (face-corners f) i 0 in
+    let c : ℕ → ℕ = λ i. get_or (face_corners f) i 0 in
     triangle f (c 0) (c 1) (c 3) ++ triangle f (c 0) (c 2) (c 3)
 
 unfoldable pub box : Span → Solid
-box b = solid (flat_map (λ n. coordinates (corner-point b n)) (up_to 8)) (flat_map cut faces)
+box b = solid (flat_map (λ n. coordinates (corner_point b n)) (up_to 8)) (flat_map cut faces)

@@ -5,8 +5,8 @@ use Rattle.numbers.specs.Numbers.{number, number_at, float_at, bit}
 use Rattle.outage_rows.specs.declared.Bound.{Bound}
 use Rattle.outage_rows.specs.declared.Row.{Row}
 
-abbrev pub mark-RW : List ℕ
-mark-RW = 0x52 ∷ 0x57 ∷ []
+abbrev pub mark_RW : List ℕ
+mark_RW = 0x52 ∷ 0x57 ∷ []
 
 abbrev pub flags : List ℕ → ℕ
 flags bs = number_at 52 1 bs
@@ -26,4 +26,4 @@ row bs =
 
 -- 9: "also for flag bits 6 and 7"
 unfoldable pub no_row : List ℕ → Bool
-no_row bs = not (eqb (length bs) 53) || not (eqb (number_at 0 2 bs) (number mark-RW)) || bit 6 (flags bs) || bit 7 (flags bs)
+no_row bs = not (eqb (length bs) 53) || not (eqb (number_at 0 2 bs) (number mark_RW)) || bit 6 (flags bs) || bit 7 (flags bs)

@@ -8,7 +8,7 @@ use lib.ListN.{length, set}
 use Rattle.list_words.specs.Lists.{above, below}
 use Rattle.results.specs.declared.End.{End}
 use Rattle.placed_ends.specs.declared.Counts.{Counts}
-use Rattle.placed_ends.specs.Words.{put-once, put-times, placed}
+use Rattle.placed_ends.specs.Words.{put_once, put_times, placed}
 
 abbrev pub Side : Type 0
 Side = List ℕ × ℕ
@@ -18,23 +18,23 @@ both {A} {B} e = (ap {B = A} (λ (u : A × B). u.0) e, ap {B = B} (λ (u : A × 
 
 -- ---- once
 module _ (side v : ℕ) (s : Side) where
-  pub put-room : s.1 < length s.0 / 2 → put-once side v s ≡ (set s.0 (2 * s.1 + side) v, s.1 + 1)
-  put-room h = rw (lt-ltb _ _ h)
+  pub put_room : s.1 < length s.0 / 2 → put_once side v s ≡ (set s.0 (2 * s.1 + side) v, s.1 + 1)
+  put_room h = rw (lt-ltb _ _ h)
 
-  pub put_full : length s.0 / 2 ≤ s.1 → put-once side v s ≡ s
+  pub put_full : length s.0 / 2 ≤ s.1 → put_once side v s ≡ s
   put_full h = rw (le-ltb _ _ h)
 
 -- ---- n times
 module _ (side v n i : ℕ) (s : Side) where
-  pub times-step : (l : List ℕ) (k : ℕ) → i < n → l ≡ (put-once side v s).0 → k ≡ (put-once side v s).1 → put-times side v (n - (i + 1)) (l, k) ≡ put-times side v (n - i) s
-  times-step l k h e d = let q : n - i ≡ suc (n - (i + 1)) = omega arith in rw (e, d, q)
+  pub times_step : (l : List ℕ) (k : ℕ) → i < n → l ≡ (put_once side v s).0 → k ≡ (put_once side v s).1 → put_times side v (n - (i + 1)) (l, k) ≡ put_times side v (n - i) s
+  times_step l k h e d = let q : n - i ≡ suc (n - (i + 1)) = omega arith in rw (e, d, q)
 
-  pub times-end : n ≤ i → put-times side v (n - i) s ≡ s
-  times-end h = let q : n - i ≡ 0 = omega arith in rw q
+  pub times_end : n ≤ i → put_times side v (n - i) s ≡ s
+  times_end h = let q : n - i ≡ 0 = omega arith in rw q
 
 -- ---- one end: its starts, then its stops
 pub placed_by : (l : List ℕ) (c : Counts) (e : End) (a b k j : ℕ) (l₁ l₂ : List ℕ) → a ≡ below e.count → b ≡ above e.count
-    → (l₁ ≡ (put-times 0 e.vertex a (l, c.starts)).0) × (k ≡ (put-times 0 e.vertex a (l, c.starts)).1)
-    → (l₂ ≡ (put-times 1 e.vertex b (l₁, c.stops)).0) × (j ≡ (put-times 1 e.vertex b (l₁, c.stops)).1)
+    → (l₁ ≡ (put_times 0 e.vertex a (l, c.starts)).0) × (k ≡ (put_times 0 e.vertex a (l, c.starts)).1)
+    → (l₂ ≡ (put_times 1 e.vertex b (l₁, c.stops)).0) × (j ≡ (put_times 1 e.vertex b (l₁, c.stops)).1)
     → (l₂ ≡ (placed (l, c) e).0) × (record { starts = k; stops = j } ≡ (placed (l, c) e).1)
 placed_by l c e a b k j l₁ l₂ ea eb p q = rw (q.0, q.1, p.0, p.1, ea, eb) (refl, refl)

@@ -46,20 +46,20 @@ module _ (z : ℤ) (f : SFits w32 z) where
     minus : Minus ≡ pos (suc n)
     minus = ap (λ (y : ℤ). pos 0 -ℤ y) (to_z-of_z w64 (Back z) wide_fits ∙ to_z-of_z w32 z f ∙ is) ∙ ap pos (zero-add (suc n))
 
-    pub minus-fits : SFits w64 Minus
-    minus-fits = subst (SFits w64) (sym minus) (record { sfits = omega (arith, small) })
+    pub minus_fits : SFits w64 Minus
+    minus_fits = subst (SFits w64) (sym minus) (record { sfits = omega (arith, small) })
 
     back : to_z w64 (of_z w64 Minus) ≡ pos (suc n)
-    back = to_z-of_z w64 Minus minus-fits ∙ minus
+    back = to_z-of_z w64 Minus minus_fits ∙ minus
 
-    pub minus-casts : T (non_neg (to_z w64 (of_z w64 Minus))) × Fits w32 (nat_abs (to_z w64 (of_z w64 Minus)))
-    minus-casts = subst (λ (y : ℤ). T (non_neg y) × Fits w32 (nat_abs y)) (sym back) (tt, record { fits = omega (arith, small) })
+    pub minus_casts : T (non_neg (to_z w64 (of_z w64 Minus))) × Fits w32 (nat_abs (to_z w64 (of_z w64 Minus)))
+    minus_casts = subst (λ (y : ℤ). T (non_neg y) × Fits w32 (nat_abs y)) (sym back) (tt, record { fits = omega (arith, small) })
 
     pub minus_is : nat_abs (to_z w64 (of_z w64 Minus)) ≡ below z
     minus_is = ap nat_abs back ∙ sym (ap below is)
 
-    pub no-stops : 0 ≡ above z
-    no-stops = sym (ap above is)
+    pub no_stops : 0 ≡ above z
+    no_stops = sym (ap above is)
 
   module _ (t : lt_z (Back z) (pos 0) ≡ false) where
     abbrev m : ℕ
@@ -68,11 +68,11 @@ module _ (z : ℤ) (f : SFits w32 z) where
     is_pos : z ≡ pos m
     is_pos = (positive z (subst (λ (y : ℤ). lt_z y (pos 0) ≡ false) (to_z-of_z w32 z f) t)).1
 
-    pub no-starts : 0 ≡ below z
-    no-starts = sym (ap below is_pos)
+    pub no_starts : 0 ≡ below z
+    no_starts = sym (ap below is_pos)
 
     pub casts : T (non_neg (Back z)) × Fits w32 (nat_abs (Back z))
     casts = subst (λ (y : ℤ). T (non_neg y) × Fits w32 (nat_abs y)) (sym (to_z-of_z w32 z f ∙ is_pos)) (tt, record { fits = omega (arith, subst (λ (y : ℤ). mag y < 2 ^ 31) is_pos f.sfits) })
 
-    pub stops-is : nat_abs (Back z) ≡ above z
-    stops-is = ap nat_abs (to_z-of_z w32 z f ∙ is_pos) ∙ sym (ap above is_pos)
+    pub stops_is : nat_abs (Back z) ≡ above z
+    stops_is = ap nat_abs (to_z-of_z w32 z f ∙ is_pos) ∙ sym (ap above is_pos)

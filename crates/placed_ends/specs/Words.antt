@@ -7,19 +7,19 @@ use Rattle.placed_ends.specs.declared.Counts.{Counts}
 -- ---- starts go to even places of a list, stops to odd ones, each side in its order, as far as there is room
 
 -- the list, and the next piece on one side
-abbrev pub put-once : ℕ → ℕ → List ℕ × ℕ → List ℕ × ℕ
-put-once side v s = cond (ltb s.1 (length s.0 / 2)) (set s.0 (2 * s.1 + side) v, s.1 + 1) s
+abbrev pub put_once : ℕ → ℕ → List ℕ × ℕ → List ℕ × ℕ
+put_once side v s = cond (ltb s.1 (length s.0 / 2)) (set s.0 (2 * s.1 + side) v, s.1 + 1) s
 
-abbrev pub put-times : ℕ → ℕ → ℕ → List ℕ × ℕ → List ℕ × ℕ
-put-times side v zero s = s
-put-times side v (suc n) s = put-times side v n (put-once side v s)
+abbrev pub put_times : ℕ → ℕ → ℕ → List ℕ × ℕ → List ℕ × ℕ
+put_times side v zero s = s
+put_times side v (suc n) s = put_times side v n (put_once side v s)
 
 -- the list, and the next piece on each side
-abbrev pub with-stops : ℕ → List ℕ × ℕ → List ℕ × Counts
-with-stops k s = (s.0, record { starts = k; stops = s.1 })
+abbrev pub with_stops : ℕ → List ℕ × ℕ → List ℕ × Counts
+with_stops k s = (s.0, record { starts = k; stops = s.1 })
 
-abbrev pub with-starts : ℕ → End → List ℕ × ℕ → List ℕ × Counts
-with-starts k e s = with-stops s.1 (put-times 1 e.vertex (above e.count) (s.0, k))
+abbrev pub with_starts : ℕ → End → List ℕ × ℕ → List ℕ × Counts
+with_starts k e s = with_stops s.1 (put_times 1 e.vertex (above e.count) (s.0, k))
 
 abbrev pub placed : List ℕ × Counts → End → List ℕ × Counts
-placed s e = with-starts s.1.stops e (put-times 0 e.vertex (below e.count) (s.0, s.1.starts))
+placed s e = with_starts s.1.stops e (put_times 0 e.vertex (below e.count) (s.0, s.1.starts))

@@ -16,8 +16,8 @@ pub struct Counts {
 // Puts `v` on one side of the k-th piece, where there is room.
 fn put_once(list: &mut [u32], side: usize, k: usize, v: u32) -> usize
     requires { side < 2 }
-    ensures list { list.new ≡ (Pe.put-once side v (list.old, k)).0 }
-    ensures next { result ≡ (Pe.put-once side v (list.old, k)).1 }
+    ensures list { list.new ≡ (Pe.put_once side v (list.old, k)).0 }
+    ensures next { result ≡ (Pe.put_once side v (list.old, k)).1 }
 {
     if k < list.len() / 2 {
         let at = 2 * k + side;
@@ -30,8 +30,8 @@ fn put_once(list: &mut [u32], side: usize, k: usize, v: u32) -> usize
 // Puts `v` n times, from the k-th piece on.
 fn put_times(list: &mut [u32], side: usize, k: usize, n: u32, v: u32) -> usize
     requires { side < 2 }
-    ensures list { list.new ≡ (Pe.put-times side v n (list.old, k)).0 }
-    ensures next { result ≡ (Pe.put-times side v n (list.old, k)).1 }
+    ensures list { list.new ≡ (Pe.put_times side v n (list.old, k)).0 }
+    ensures next { result ≡ (Pe.put_times side v n (list.old, k)).1 }
 {
     let mut at = k;
     let mut i = 0;

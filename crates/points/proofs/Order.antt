@@ -10,7 +10,7 @@ use lib.Dec.{T, eqb, ltb→lt, lt→ltb, eqb→eq}
 use lib.IntN.{ℤ}
 use lib.Ieee.{Float, nan, inf, fin, up, down, below, level, le, lt, is_nan}
 use lib.Ieee.Fits.{down_pos, and_i, and_l, and_r, eq→eqb}
-use Rattle.list_words.proofs.Tests.{T_of, of_T, never, not-true}
+use Rattle.list_words.proofs.Tests.{T_of, of_T, never, not_true}
 
 -- ---- finite values: ±a is over s a - under s a, so that an order of two fractions is one inequality of naturals
 abbrev over : Bool → ℕ → ℕ
@@ -27,8 +27,8 @@ same_out x y h = eqb→eq x y (and_l (eqb x y) true h)
 same_in : (x y : ℕ) → x ≡ y → T (eqb x y && true)
 same_in x y h = and_i (eqb x y) true (eq→eqb h) tt
 
-zero-out : (x y : ℕ) → T (eqb x y && eqb x 0) → x + y ≡ 0
-zero-out x y h = let e = eqb→eq x y (and_l (eqb x y) (eqb x 0) h) in let z = eqb→eq x 0 (and_r (eqb x y) (eqb x 0) h) in omega arith
+zero_out : (x y : ℕ) → T (eqb x y && eqb x 0) → x + y ≡ 0
+zero_out x y h = let e = eqb→eq x y (and_l (eqb x y) (eqb x 0) h) in let z = eqb→eq x 0 (and_r (eqb x y) (eqb x 0) h) in omega arith
 
 zero_in : (x y : ℕ) → x + y ≡ 0 → T (eqb x y && eqb x 0)
 zero_in x y h = and_i (eqb x y) (eqb x 0) (eq→eqb {a = x} {b = y} (omega arith)) (eq→eqb {a = x} {b = 0} (omega arith))
@@ -49,29 +49,29 @@ opposite false true m n f g = refl
 opposite false false m n f g = let h : ¬ (n ≤ m) = g.1 in absurd (f.1 (omega arith))
 
 module _ (a k b c : ℕ) where
-  below-is : (s t : Bool) → T (below s (a * k) t (b * c)) ↔ part s a k t b c < part t b c s a k
-  below-is false false = omega (arith, ltb→lt, lt→ltb)
-  below-is false true = omega arith
-  below-is true false = omega (arith, ltb→lt, lt→ltb)
-  below-is true true = omega (arith, ltb→lt, lt→ltb)
+  below_is : (s t : Bool) → T (below s (a * k) t (b * c)) ↔ part s a k t b c < part t b c s a k
+  below_is false false = omega (arith, ltb→lt, lt→ltb)
+  below_is false true = omega arith
+  below_is true false = omega (arith, ltb→lt, lt→ltb)
+  below_is true true = omega (arith, ltb→lt, lt→ltb)
 
-  level-is : (s t : Bool) → T (level s (a * k) t (b * c)) ↔ part s a k t b c ≡ part t b c s a k
-  level-is false false = omega (arith, same_out, same_in)
-  level-is false true = omega (arith, zero-out, zero_in)
-  level-is true false = omega (arith, zero-out, zero_in)
-  level-is true true = omega (arith, same_out, same_in)
+  level_is : (s t : Bool) → T (level s (a * k) t (b * c)) ↔ part s a k t b c ≡ part t b c s a k
+  level_is false false = omega (arith, same_out, same_in)
+  level_is false true = omega (arith, zero_out, zero_in)
+  level_is true false = omega (arith, zero_out, zero_in)
+  level_is true true = omega (arith, same_out, same_in)
 
-  at-most-is : (s t : Bool) → T (below s (a * k) t (b * c) || level s (a * k) t (b * c)) ↔ part s a k t b c ≤ part t b c s a k
-  at-most-is s t = either (below s (a * k) t (b * c)) (level s (a * k) t (b * c)) _ _ (below-is s t) (level-is s t)
+  at_most_is : (s t : Bool) → T (below s (a * k) t (b * c) || level s (a * k) t (b * c)) ↔ part s a k t b c ≤ part t b c s a k
+  at_most_is s t = either (below s (a * k) t (b * c)) (level s (a * k) t (b * c)) _ _ (below_is s t) (level_is s t)
 
 module _ (s : Bool) (m : ℕ) (e : ℤ) (t : Bool) (n : ℕ) (d : ℤ) where
-  lt-is : T (lt (fin s m e) (fin t n d)) ↔ part s (m * up e) (down d) t (n * up d) (down e) < part t (n * up d) (down e) s (m * up e) (down d)
+  lt_is : T (lt (fin s m e) (fin t n d)) ↔ part s (m * up e) (down d) t (n * up d) (down e) < part t (n * up d) (down e) s (m * up e) (down d)
   unfolding lt
-  lt-is = below-is (m * up e) (down d) (n * up d) (down e) s t
+  lt_is = below_is (m * up e) (down d) (n * up d) (down e) s t
 
   le_is : T (le (fin s m e) (fin t n d)) ↔ part s (m * up e) (down d) t (n * up d) (down e) ≤ part t (n * up d) (down e) s (m * up e) (down d)
   unfolding le
-  le_is = at-most-is (m * up e) (down d) (n * up d) (down e) s t
+  le_is = at_most_is (m * up e) (down d) (n * up d) (down e) s t
 
 -- (a - b) / c ≤ (p - q) / r ≤ (x - y) / z
 through : (a b c p q r x y z : ℕ) → 0 < r → a * r + q * c ≤ p * c + b * r → p * z + y * r ≤ x * r + q * z → a * z + y * c ≤ x * c + b * z
@@ -85,17 +85,17 @@ nan_right (inf s) = refl
 nan_right (fin s m e) = refl
 
 -- what stands in an order that holds is no NaN
-pub left-number : (x y : Float) → le x y ≡ true → is_nan x ≡ false
+pub left_number : (x y : Float) → le x y ≡ true → is_nan x ≡ false
 unfolding le is_nan
-left-number nan y h = absurd (false≢true h)
-left-number (inf s) y h = refl
-left-number (fin s m e) y h = refl
+left_number nan y h = absurd (false≢true h)
+left_number (inf s) y h = refl
+left_number (fin s m e) y h = refl
 
-pub right-number : (x y : Float) → le x y ≡ true → is_nan y ≡ false
+pub right_number : (x y : Float) → le x y ≡ true → is_nan y ≡ false
 unfolding is_nan
-right-number x nan h = absurd (never (le x nan) h (nan_right x))
-right-number x (inf t) h = refl
-right-number x (fin t n d) h = refl
+right_number x nan h = absurd (never (le x nan) h (nan_right x))
+right_number x (inf t) h = refl
+right_number x (fin t n d) h = refl
 
 pub le_trans : (x y z : Float) → le x y ≡ true → le y z ≡ true → le x z ≡ true
 unfolding le
@@ -135,7 +135,7 @@ lt_not_le (inf false) (fin t n d) a b = refl
 lt_not_le (fin s m e) nan a b = absurd (true≢false b)
 lt_not_le (fin s m e) (inf true) a b = refl
 lt_not_le (fin s m e) (inf false) a b = refl
-lt_not_le (fin s m e) (fin t n d) a b = opposite (lt (fin s m e) (fin t n d)) (le (fin t n d) (fin s m e)) _ _ (lt-is s m e t n d) (le_is t n d s m e)
+lt_not_le (fin s m e) (fin t n d) a b = opposite (lt (fin s m e) (fin t n d)) (le (fin t n d) (fin s m e)) _ _ (lt_is s m e t n d) (le_is t n d s m e)
 
 -- ---- what follows from these two
 pub le_of_lt : (x y : Float) → lt x y ≡ true → le x y ≡ true
@@ -143,20 +143,20 @@ unfolding le
 le_of_lt x y h = rw h
 
 pub lt_not : (x y : Float) → lt x y ≡ true → le y x ≡ false
-lt_not x y h = let g = le_of_lt x y h in not-true (le y x) (sym (lt_not_le x y (left-number x y g) (right-number x y g)) ∙ h)
+lt_not x y h = let g = le_of_lt x y h in not_true (le y x) (sym (lt_not_le x y (left_number x y g) (right_number x y g)) ∙ h)
 
-pub not-le : (x y : Float) → is_nan x ≡ false → is_nan y ≡ false → le y x ≡ false → lt x y ≡ true
-not-le x y a b h = lt_not_le x y a b ∙ ap not h
+pub not_le : (x y : Float) → is_nan x ≡ false → is_nan y ≡ false → le y x ≡ false → lt x y ≡ true
+not_le x y a b h = lt_not_le x y a b ∙ ap not h
 
 pub le_total : (x y : Float) → is_nan x ≡ false → is_nan y ≡ false → (le x y ≡ true) ⊎ (le y x ≡ true)
 le_total x y a b = go (le x y) refl
   where
     go : (w : Bool) → le x y ≡ w → (le x y ≡ true) ⊎ (le y x ≡ true)
     go true e = inl e
-    go false e = inr (le_of_lt y x (not-le y x b a e))
+    go false e = inr (le_of_lt y x (not_le y x b a e))
 
-pub le-self : (x : Float) → is_nan x ≡ false → le x x ≡ true
-le-self x a = elim (le_total x x a a) [ inl h ↦ h | inr h ↦ h ]
+pub le_self : (x : Float) → is_nan x ≡ false → le x x ≡ true
+le_self x a = elim (le_total x x a a) [ inl h ↦ h | inr h ↦ h ]
 
 -- Of three, where x ≤ z fails. No number is asked for.
 pub fails : (x y z : Float) → le x y ≡ true → le x z ≡ false → le y z ≡ false
@@ -166,15 +166,15 @@ fails x y z h k = go (le y z) refl
     go true e = absurd (never (le x z) (le_trans x y z h e) k)
     go false e = refl
 
-pub fails-right : (x y z : Float) → le y z ≡ true → le x z ≡ false → le x y ≡ false
-fails-right x y z h k = go (le x y) refl
+pub fails_right : (x y z : Float) → le y z ≡ true → le x z ≡ false → le x y ≡ false
+fails_right x y z h k = go (le x y) refl
   where
     go : (w : Bool) → le x y ≡ w → w ≡ false
     go true e = absurd (never (le x z) (le_trans x y z e h) k)
     go false e = refl
 
-pub lt-le-trans : (x y z : Float) → lt x y ≡ true → le y z ≡ true → lt x z ≡ true
-lt-le-trans x y z h k = not-le x z (left-number x y (le_of_lt x y h)) (right-number y z k) (fails y z x k (lt_not x y h))
+pub lt_le_trans : (x y z : Float) → lt x y ≡ true → le y z ≡ true → lt x z ≡ true
+lt_le_trans x y z h k = not_le x z (left_number x y (le_of_lt x y h)) (right_number y z k) (fails y z x k (lt_not x y h))
 
 pub le_lt_trans : (x y z : Float) → le x y ≡ true → lt y z ≡ true → lt x z ≡ true
-le_lt_trans x y z h k = not-le x z (left-number x y h) (right-number y z (le_of_lt y z k)) (fails-right z x y h (lt_not y z k))
+le_lt_trans x y z h k = not_le x z (left_number x y h) (right_number y z (le_of_lt y z k)) (fails_right z x y h (lt_not y z k))

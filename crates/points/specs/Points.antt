@@ -45,18 +45,18 @@ unfoldable pub point_at : Float → Point → Point → Point
 point_at t p m = record { x = interpolated t p.x m.x; y = interpolated t p.y m.y; z = interpolated t p.z m.z }
 
 -- "with p and m from A's plus and minus points; B's likewise"
-unfoldable pub pair-at : Float → PointPair → PointPair → PointPair
-pair-at t plus minus = record { a = point_at t plus.a minus.a; b = point_at t plus.b minus.b }
+unfoldable pub pair_at : Float → PointPair → PointPair → PointPair
+pair_at t plus minus = record { a = point_at t plus.a minus.a; b = point_at t plus.b minus.b }
 
 unfoldable pub placed : Axis → PointPair → PointPair → PointPair
-placed k plus minus = pair-at (share (gap k plus) (gap k minus)) plus minus
+placed k plus minus = pair_at (share (gap k plus) (gap k minus)) plus minus
 
 -- What stands where no number or point is given. No admitted solid and no crossing is ever asked for it.
 abbrev pub zero_number : Float
 zero_number = fin false 0 (pos 0)
 
-abbrev pub zero-point : Point
-zero-point = record { x = zero_number; y = zero_number; z = zero_number }
+abbrev pub zero_point : Point
+zero_point = record { x = zero_number; y = zero_number; z = zero_number }
 
-abbrev pub zero-pair : PointPair
-zero-pair = record { a = zero-point; b = zero-point }
+abbrev pub zero_pair : PointPair
+zero_pair = record { a = zero_point; b = zero_point }

@@ -96,7 +96,7 @@ pub fn point_at(t: f64, p: Point, m: Point) -> Point
 
 // "with p and m from A's plus and minus points; B's likewise"
 pub fn pair_at(t: f64, plus: PointPair, minus: PointPair) -> PointPair
-    ensures { result ≡ P.pair-at t plus minus }
+    ensures { result ≡ P.pair_at t plus minus }
 {
     PointPair {
         a: point_at(t, plus.a, minus.a),

@@ -15,7 +15,7 @@ fn ready(points: &[f64], corners: &[u32], ends: &mut [u32], halves: &mut [u32], 
     requires ends_len { length ends.old ≡ 768 }
     requires corners_in_bounds { at + 9 * So.facets (So.lent points corners) ≤ length halves.old }
     ensures ready { Ed.Ready points.now corners.now ends.new }
-    ensures halves { halves.new ≡ sets halves.old at (La.half-list (So.lent points.entry corners.entry)) }
+    ensures halves { halves.new ≡ sets halves.old at (La.half_list (So.lent points.entry corners.entry)) }
     ensures count { result ≡ length (So.edges (So.lent points.entry corners.entry)) }
 {
     let mut counts = [0u16; 16384];

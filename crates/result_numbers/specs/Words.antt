@@ -4,9 +4,9 @@ use Rattle.solids.specs.Solids.{Solid, vertices}
 use Rattle.results.specs.declared.Operation.{Operation}
 use Rattle.fans.specs.Words.{Ranked}
 use Rattle.layouts.specs.Words.{sizes}
-use Rattle.vertex_table.specs.Words.{of-B, inclusions}
+use Rattle.vertex_table.specs.Words.{of_B, inclusions}
 
 -- base is the number of the first crossing, n how many vertices there are
 pub record Numbered (op : Operation) (a b : Solid) (num : List ℕ) (base n : ℕ) : Type 0 where
-  pub of-A : Ranked (inclusions op a b) num 0 0 (vertices a) base
-  pub of-B : Ranked (inclusions op a b) num (of-B (sizes a b) 0) (vertices a) (vertices b) n
+  pub of_A : Ranked (inclusions op a b) num 0 0 (vertices a) base
+  pub of_B : Ranked (inclusions op a b) num (of_B (sizes a b) 0) (vertices a) (vertices b) n

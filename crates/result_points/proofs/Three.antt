@@ -8,12 +8,12 @@ use lib.IntN.{ℤ}
 use lib.ListN.{length, length-append}
 use lib.Seq.{sets, length-sets}
 use Rattle.list_words.specs.Lists.{onto}
-use Rattle.list_stores.proofs.Stores.{sets-three, sets-onto}
+use Rattle.list_stores.proofs.Stores.{sets_three, sets_onto}
 use Rattle.solids.specs.Solids.{Solid, vertices}
 use Rattle.layouts.specs.declared.Sizes.{Sizes}
 use Rattle.layouts.specs.Words.{sizes}
-use Rattle.crossing_points.specs.Words.{of-rows}
-use Rattle.result_points.specs.Words.{of-vertices, placed}
+use Rattle.crossing_points.specs.Words.{of_rows}
+use Rattle.result_points.specs.Words.{of_vertices, placed}
 
 module _ (a b : Solid) (inc : List ℤ) (first crossed : List ℕ) (old : List Float) where
   -- the inclusions of all vertices are there, and there is room for all points
@@ -27,48 +27,48 @@ module _ (a b : Solid) (inc : List ℤ) (first crossed : List ℕ) (old : List F
 
 module _ {a b : Solid} {z : Sizes} {inc : List ℤ} {first crossed : List ℕ} {old : List Float} (g : Roomy a b inc first crossed old z) where
   -- ---- the inclusions
-  pub there-a : 0 + vertices a ≤ length inc
-  there-a =
+  pub there_a : 0 + vertices a ≤ length inc
+  there_a =
       let e : z.va ≡ vertices a = ap (λ (y : Sizes). y.va) g.size in
       omega (arith, g.there)
 
-  pub there-b : z.va + vertices b ≤ length inc
-  there-b =
+  pub there_b : z.va + vertices b ≤ length inc
+  there_b =
       let e : z.vb ≡ vertices b = ap (λ (y : Sizes). y.vb) g.size in
       omega (arith, g.there)
 
   -- ---- the points
-  abbrev of-a : List Float
-  of-a = of-vertices a inc 0
+  abbrev of_a : List Float
+  of_a = of_vertices a inc 0
 
   abbrev between : List Float
-  between = of-rows a b first crossed
+  between = of_rows a b first crossed
 
-  abbrev of-b : List Float
-  of-b = of-vertices b inc z.va
+  abbrev of_b : List Float
+  of_b = of_vertices b inc z.va
 
-  parts : placed a b inc first crossed ≡ of-a ++ (between ++ of-b)
+  parts : placed a b inc first crossed ≡ of_a ++ (between ++ of_b)
   unfolding placed
-  parts = ap (λ (y : Sizes). of-a ++ (between ++ of-vertices b inc y.va)) (sym g.size)
+  parts = ap (λ (y : Sizes). of_a ++ (between ++ of_vertices b inc y.va)) (sym g.size)
 
-  all_three : length of-a + (length between + length of-b) ≤ length old
-  all_three = omega (arith, g.room, ap length parts, length-append of-a (between ++ of-b), length-append between of-b)
+  all_three : length of_a + (length between + length of_b) ≤ length old
+  all_three = omega (arith, g.room, ap length parts, length-append of_a (between ++ of_b), length-append between of_b)
 
-  pub room-a : 0 + length of-a ≤ length old
-  room-a = omega (arith, all_three)
+  pub room_a : 0 + length of_a ≤ length old
+  room_a = omega (arith, all_three)
 
-  module _ {l : List Float} {i : ℕ} (p : l ≡ sets old 0 of-a) (f : i ≡ 0 + length of-a) where
-    long-a : length l ≡ length old
-    long-a = ap length p ∙ length-sets old 0 of-a
+  module _ {l : List Float} {i : ℕ} (p : l ≡ sets old 0 of_a) (f : i ≡ 0 + length of_a) where
+    long_a : length l ≡ length old
+    long_a = ap length p ∙ length-sets old 0 of_a
 
-    pub room-between : i + length between ≤ length l
-    room-between = omega (arith, all_three, f, long-a)
+    pub room_between : i + length between ≤ length l
+    room_between = omega (arith, all_three, f, long_a)
 
     module _ {m : List Float} {j : ℕ} (q : m ≡ sets l i between) (h : j ≡ i + length between) where
-      pub room-b : j + length of-b ≤ length m
-      room-b = omega (arith, all_three, f, h, long-a, ap length q, length-sets l i between)
+      pub room_b : j + length of_b ≤ length m
+      room_b = omega (arith, all_three, f, h, long_a, ap length q, length-sets l i between)
 
-      pub all_placed : {n : List Float} → n ≡ sets m j of-b → n ≡ onto (placed a b inc first crossed) old
+      pub all_placed : {n : List Float} → n ≡ sets m j of_b → n ≡ onto (placed a b inc first crossed) old
       all_placed r =
-          r ∙ rw (q, p) (sets-three old 0 i j of-a between of-b (sym f) (sym h))
-          ∙ ap (sets old 0) (sym parts) ∙ sets-onto old (placed a b inc first crossed) g.room
+          r ∙ rw (q, p) (sets_three old 0 i j of_a between of_b (sym f) (sym h))
+          ∙ ap (sets old 0) (sym parts) ∙ sets_onto old (placed a b inc first crossed) g.room

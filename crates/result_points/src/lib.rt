@@ -12,9 +12,9 @@ use layouts::Sizes;
 // A solid's vertices that are kept; their inclusions stand from place `from` on.
 fn put_vertices(vs: &[f64], inc: &[i16], from: usize, list: &mut [f64], at: usize) -> usize
     requires vs_in_bounds { from + length vs.now / 3 ≤ length inc.now }
-    requires from_in_bounds { at + length (Rp.of-vertices (So.solid vs.now []) inc.now from) ≤ length list.old }
-    ensures put { list.new ≡ sets list.old at (Rp.of-vertices (So.solid vs.now []) inc.now from) }
-    ensures next { result ≡ at + length (Rp.of-vertices (So.solid vs.now []) inc.now from) }
+    requires from_in_bounds { at + length (Rp.of_vertices (So.solid vs.now []) inc.now from) ≤ length list.old }
+    ensures put { list.new ≡ sets list.old at (Rp.of_vertices (So.solid vs.now []) inc.now from) }
+    ensures next { result ≡ at + length (Rp.of_vertices (So.solid vs.now []) inc.now from) }
 {
     let many = vs.len() / 3;
     let mut next = at;

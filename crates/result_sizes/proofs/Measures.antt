@@ -16,57 +16,57 @@ use Rattle.results.specs.Triangles.{Triangle}
 use Rattle.edges.specs.Words as Ed
 use Rattle.layouts.specs.declared.Sizes.{Sizes}
 use Rattle.layouts.specs.Words.{sizes, Sized, halves, Listing, Columns}
-use Rattle.layouts.proofs.Lengths.{length-halves, sized}
+use Rattle.layouts.proofs.Lengths.{length_halves, sized}
 use Rattle.fans.specs.Words.{rank}
 use Rattle.vertex_table.specs.Words as T
 use Rattle.vertex_table.specs.Words.{inclusions, filled}
-use Rattle.vertex_table.proofs.Good.{good, read-triangles}
+use Rattle.vertex_table.proofs.Good.{good, read_triangles}
 use Rattle.kept_lists.specs.Words as K
-use Rattle.kept_lists.proofs.Found.{listing-columns}
-use Rattle.kept_lists.proofs.Use.{walked-triangles, walked-balanced}
+use Rattle.kept_lists.proofs.Found.{listing_columns}
+use Rattle.kept_lists.proofs.Use.{walked_triangles, walked_balanced}
 use Rattle.crossing_rows.specs.declared.Listed.TheVariants.{Found}
 use Rattle.crossing_rows.specs.Words.{row, rows, Answered}
 use Rattle.inclusions.specs.Words.{Included}
 use Rattle.crossing_rows.proofs.Room.{enough}
 use Rattle.result_numbers.specs.Words.{Numbered}
 use Rattle.result_numbers.proofs.Listed.{listed}
-use Rattle.result_numbers.proofs.Numbered.{follows-A, follows-B}
+use Rattle.result_numbers.proofs.Numbered.{follows_A, follows_B}
 use Rattle.result_sizes.specs.Words.{Lists, Ends}
-use Rattle.result_sizes.proofs.Vertices.{own-A, own-B}
+use Rattle.result_sizes.proofs.Vertices.{own_A, own_B}
 
 -- the list of half-edges is as long as its front
-pub nine-there : (a b : Solid) (z : Sizes) (l : List ℕ) → z ≡ sizes a b → take (9 * (z.fa + z.fb)) l ≡ halves a b → 9 * (z.fa + z.fb) ≤ length l
-nine-there a b z l of-z front =
-    omega (arith, length-take (9 * (z.fa + z.fb)) l, ap length front, length-halves a b, ap (λ (z : Sizes). z.fa) of-z, ap (λ (z : Sizes). z.fb) of-z)
+pub nine_there : (a b : Solid) (z : Sizes) (l : List ℕ) → z ≡ sizes a b → take (9 * (z.fa + z.fb)) l ≡ halves a b → 9 * (z.fa + z.fb) ≤ length l
+nine_there a b z l of_z_list front =
+    omega (arith, length-take (9 * (z.fa + z.fb)) l, ap length front, length_halves a b, ap (λ (z : Sizes). z.fa) of_z_list, ap (λ (z : Sizes). z.fb) of_z_list)
 
 pub ends_there : {ap : List Float} {ac : List ℕ} {bp : List Float} {bc : List ℕ} (ends : List ℕ) → Ed.Ready ap ac (take 768 ends) → Ed.Ready bp bc (drop 768 ends) → Ends ap ac bp bc ends
-ends_there ends of-a of-b = (of-a, of-b, omega (arith, length-drop 768 ends, of-b.room))
+ends_there ends of_a of_b = (of_a, of_b, omega (arith, length-drop 768 ends, of_b.room))
 
 -- what is found with the operation's sign is the operation's
 pub gathered : (op : Operation) (a b : Solid) {s : ℤ} {z : Sizes} {total : ℕ} {hs : List ℕ} {inc : List ℤ} {first crossed : List ℕ}
     → s ≡ cI op → z ≡ sizes a b → hs ≡ halves a b → Included op a b inc → Answered s a b first crossed (Found total) → Lists op a b z total hs inc first crossed
-gathered op a b {first = first} {crossed = crossed} of-s of-z of-hs i f =
-    record { of-z = of-z; of-hs = of-hs; included = i; size = rw of-s at f.0; listing = subst (λ (s : ℤ). Listing (row s a b) (rows a b) first crossed) of-s f.1 }
+gathered op a b {first = first} {crossed = crossed} of_s of_z_list of_hs i f =
+    record { of_z_list = of_z_list; of_hs = of_hs; included = i; size = rw of_s at f.0; listing = subst (λ (s : ℤ). Listing (row s a b) (rows a b) first crossed) of_s f.1 }
 
-module _ (op : Operation) (a b : Solid) (ok-a : admission a ≡ Accepted) (ok-b : admission b ≡ Accepted) {z : Sizes} {total : ℕ} {hs : List ℕ} {inc : List ℤ} {first crossed : List ℕ} (l : Lists op a b z total hs inc first crossed) where
+module _ (op : Operation) (a b : Solid) (ok_a : admission a ≡ Accepted) (ok_b : admission b ≡ Accepted) {z : Sizes} {total : ℕ} {hs : List ℕ} {inc : List ℤ} {first crossed : List ℕ} (l : Lists op a b z total hs inc first crossed) where
   -- how many there can be
-  pub z-sized : Sized z
-  z-sized = rw l.of-z (sized a b (passed a ok-a) (passed b ok-b))
+  pub z_sized : Sized z
+  z_sized = rw l.of_z_list (sized a b (passed a ok_a) (passed b ok_b))
 
-  pub few-crossings : total ≤ 196608
-  few-crossings = rw l.size (enough (cI op) a b ok-a ok-b)
+  pub few_crossings : total ≤ 196608
+  few_crossings = rw l.size (enough (cI op) a b ok_a ok_b)
 
-  pub vertices-there : z.va + z.vb ≤ length inc
-  vertices-there = rw l.of-z l.included.long
+  pub vertices_there : z.va + z.vb ≤ length inc
+  vertices_there = rw l.of_z_list l.included.long
 
   -- what the walk asks
-  pub columns-there : 640 < length first → Columns z first crossed
-  columns-there h =
-      let zs = sized a b (passed a ok-a) (passed b ok-b) in
-      rw l.of-z (listing-columns (filled op a b) (sizes a b) (listed op a b l.listing) zs (omega (arith, zs.ea, zs.fa)))
+  pub columns_there : 640 < length first → Columns z first crossed
+  columns_there h =
+      let zs = sized a b (passed a ok_a) (passed b ok_b) in
+      rw l.of_z_list (listing_columns (filled op a b) (sizes a b) (listed op a b l.listing) zs (omega (arith, zs.ea, zs.fa)))
 
-  pub halves-there : T.Halves hs z
-  halves-there = rw (l.of-z, l.of-hs) (good op a b (passed a ok-a) (passed b ok-b)).halves
+  pub halves_there : T.Halves hs z
+  halves_there = rw (l.of_z_list, l.of_hs) (good op a b (passed a ok_a) (passed b ok_b)).halves
 
   module _ {num : List ℕ} {base n : ℕ} (v : Numbered op a b num base n) where
     abbrev w : K.Rows
@@ -76,26 +76,26 @@ module _ (op : Operation) (a b : Solid) (ok-a : admission a ≡ Accepted) (ok-b 
     ts = T.triangles (K.dense z inc num w) hs z
 
     -- the triangles are those of the table of both
-    pub as-filled : ts ≡ T.triangles (filled op a b) (halves a b) (sizes a b)
-    as-filled =
+    pub as_filled : ts ≡ T.triangles (filled op a b) (halves a b) (sizes a b)
+    as_filled =
         let start : 0 + vertices a ≡ vertices a = omega arith in
-        rw (l.of-z, l.of-hs) (
-        walked-triangles op a b w (passed a ok-a) (passed b ok-b) inc num (listed op a b l.listing) (v.of-A.next ∙ ap (rank (inclusions op a b)) start)
-        (own-A op a b (follows-A op a b l.included) v.of-A) (own-B op a b (follows-B op a b l.included) v.of-B)
-        ∙ sym (read-triangles op a b (passed a ok-a) (passed b ok-b)))
+        rw (l.of_z_list, l.of_hs) (
+        walked_triangles op a b w (passed a ok_a) (passed b ok_b) inc num (listed op a b l.listing) (v.of_A.next ∙ ap (rank (inclusions op a b)) start)
+        (own_A op a b (follows_A op a b l.included) v.of_A) (own_B op a b (follows_B op a b l.included) v.of_B)
+        ∙ sym (read_triangles op a b (passed a ok_a) (passed b ok_b)))
 
     pub ready : 640 < length first → 256 ≤ length num → base + length crossed ≤ 1048576 → K.Ready hs z inc num w
     ready long room few =
-        let c = columns-there long in
+        let c = columns_there long in
         record {
-          halves = halves-there;
-          vertices = record { inc-long = vertices-there; num-long = omega (arith, z-sized.va, z-sized.vb); small = l.included.few };
-          crossings = record { first-long = c.first-long; within = c.within; few = few };
+          halves = halves_there;
+          vertices = record { inc_long = vertices_there; num_long = omega (arith, z_sized.va, z_sized.vb); small = l.included.few };
+          crossings = record { first_long = c.first_long; within = c.within; few = few };
         }
 
     pub balanced : K.Balanced hs z inc num w
     balanced =
         let start : 0 + vertices a ≡ vertices a = omega arith in
-        rw (l.of-z, l.of-hs) (
-        walked-balanced op a b w (passed a ok-a) (passed b ok-b) inc num (listed op a b l.listing) (v.of-A.next ∙ ap (rank (inclusions op a b)) start)
-        (own-A op a b (follows-A op a b l.included) v.of-A) (own-B op a b (follows-B op a b l.included) v.of-B))
+        rw (l.of_z_list, l.of_hs) (
+        walked_balanced op a b w (passed a ok_a) (passed b ok_b) inc num (listed op a b l.listing) (v.of_A.next ∙ ap (rank (inclusions op a b)) start)
+        (own_A op a b (follows_A op a b l.included) v.of_A) (own_B op a b (follows_B op a b l.included) v.of_B))

@@ -20,8 +20,8 @@ use Rattle.result_sizes.specs.declared.Gathered.TheVariants.{All, Full}
 
 -- half-edges, inclusions and `total` crossings are those of two solids
 pub record Lists (op : Operation) (a b : Solid) (z : Sizes) (total : ℕ) (hs : List ℕ) (inc : List ℤ) (first crossed : List ℕ) : Type 0 where
-  pub of-z : z ≡ sizes a b
-  pub of-hs : hs ≡ halves a b
+  pub of_z_list : z ≡ sizes a b
+  pub of_hs : hs ≡ halves a b
   pub included : Included op a b inc
   pub size : total ≡ length (flat_map (row (cI op) a b) (up_to (rows a b)))
   pub listing : Listing (row (cI op) a b) (rows a b) first crossed
@@ -37,12 +37,12 @@ Told op ap ac bp bc ends hs inc first crossed (All z total) =
 Told op ap ac bp bc ends hs inc first crossed Full = 196608 ≤ length crossed → ⊥
 
 -- there are two admitted solids whose lists they are
-pub record Of-some (z : Sizes) (total : ℕ) (hs : List ℕ) (inc : List ℤ) (first crossed : List ℕ) : Type 0 where
+pub record OfSome (z : Sizes) (total : ℕ) (hs : List ℕ) (inc : List ℤ) (first crossed : List ℕ) : Type 0 where
   pub op : Operation
   pub a : Solid
   pub b : Solid
-  pub ok-a : admission a ≡ Accepted
-  pub ok-b : admission b ≡ Accepted
+  pub ok_a : admission a ≡ Accepted
+  pub ok_b : admission b ≡ Accepted
   pub lists : Lists op a b z total hs inc first crossed
 
 -- n vertices and m triangles, and what the triangles are then written from; it holds for whatever solids and operation have these lists
@@ -51,7 +51,7 @@ pub record Measures (z : Sizes) (total : ℕ) (hs : List ℕ) (inc : List ℤ) (
   pub ready : K.Ready hs z inc num (K.rows first crossed base)
   pub marked : K.Marked hs z (K.rows first crossed base) marks
   pub counted : m ≡ length (T.triangles (K.dense z inc num (K.rows first crossed base)) hs z)
-  pub num-long : length num ≡ 256
-  pub marks-long : length marks ≡ 5120
-  pub few-vertices : n ≤ 196864
-  pub few-triangles : m ≤ 1574400
+  pub num_long : length num ≡ 256
+  pub marks_long : length marks ≡ 5120
+  pub few_vertices : n ≤ 196864
+  pub few_triangles : m ≤ 1574400

@@ -70,7 +70,7 @@ pub fn measure(
     halves: &[u32],
     marks: &mut [u64; 5120],
 ) -> Measured
-    requires { Rs.Of-some z total halves.now inc.now first.now crossed.now × (length crossed.now ≤ 262144) }
+    requires { Rs.OfSome z total halves.now inc.now first.now crossed.now × (length crossed.now ≤ 262144) }
     ensures { Rs.Measures z total halves.now inc.now num.new first.now crossed.now marks.new result.base result.vertices result.triangles }
 {
     let n = result_numbers::number(z, total, inc, num);

@@ -4,7 +4,7 @@ use Prim.Native.Nat.{ℕ, suc}
 use mathlib.Core.Bool.{true, false}
 use Rattle.solids.specs.declared.Answer.{Answer}
 use Rattle.solids.specs.declared.Verdict.TheVariants.{Accepted, Refused}
-use Rattle.solids.specs.Refusals.{in_order, answer-of, of-A, of-B}
+use Rattle.solids.specs.Refusals.{in_order, answer_of, of_A, of_B}
 use Rattle.solids.specs.Solids.{Solid}
 use Rattle.solids.specs.Admission.{admission}
 use Rattle.results.specs.declared.Operation.{Operation}
@@ -14,27 +14,27 @@ use Rattle.results.specs.Triangles.{result}
 use Rattle.results.specs.Operation.{Lent, too_short, refusal, success, operate, operation}
 
 module _ (a b : Solid) (l : Lent) where
-  pub first-7 : (n : ℕ) → operation (suc (suc (suc n))) a b l ≡ refusal (answer-of 7) l
+  pub first_7 : (n : ℕ) → operation (suc (suc (suc n))) a b l ≡ refusal (answer_of 7) l
   unfolding operation
-  first-7 n = refl
+  first_7 n = refl
 
   module _ (op : Operation) where
     pub by_code : (code : ℕ) → chosen code ≡ Known op → operation code a b l ≡ operate op a b l
     unfolding operation
     by_code code known = rw known
 
-    pub then-A : (n : Answer) → of-A (admission a) ≡ Refused n → operate op a b l ≡ refusal n l
+    pub then_A : (n : Answer) → of_A (admission a) ≡ Refused n → operate op a b l ≡ refusal n l
     unfolding operate in_order
-    then-A n e = rw e
+    then_A n e = rw e
 
-    pub then-B : (n : Answer) → admission a ≡ Accepted → of-B (admission b) ≡ Refused n → operate op a b l ≡ refusal n l
+    pub then_B : (n : Answer) → admission a ≡ Accepted → of_B (admission b) ≡ Refused n → operate op a b l ≡ refusal n l
     unfolding operate in_order
-    then-B n d e = rw (d, e)
+    then_B n d e = rw (d, e)
 
-    pub last-8 : admission a ≡ Accepted → admission b ≡ Accepted → too_short l (result op a b) ≡ true → operate op a b l ≡ refusal (answer-of 8) l
+    pub last_8 : admission a ≡ Accepted → admission b ≡ Accepted → too_short l (result op a b) ≡ true → operate op a b l ≡ refusal (answer_of 8) l
     unfolding operate in_order
-    last-8 d e h = rw (d, e, h)
+    last_8 d e h = rw (d, e, h)
 
-    pub else-done : admission a ≡ Accepted → admission b ≡ Accepted → too_short l (result op a b) ≡ false → operate op a b l ≡ success (result op a b) l
+    pub else_done : admission a ≡ Accepted → admission b ≡ Accepted → too_short l (result op a b) ≡ false → operate op a b l ≡ success (result op a b) l
     unfolding operate in_order
-    else-done d e h = rw (d, e, h)
+    else_done d e h = rw (d, e, h)

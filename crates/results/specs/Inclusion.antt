@@ -4,7 +4,7 @@ use Rattle.points.specs.declared.Point.{Point}
 use Rattle.crossings.specs.declared.Crossing.{Crossing}
 use Rattle.crossings.specs.Crossings.{count, points, ef, fe}
 use Rattle.solids.specs.Solids.{Solid, Half, vertex, edge, facet}
-use Rattle.solids.specs.Containment.{in-A, in-B}
+use Rattle.solids.specs.Containment.{in_A, in_B}
 use Rattle.results.specs.declared.Operation.{Operation}
 use Rattle.results.specs.declared.Operation.TheVariants.{Union, Intersection, Difference}
 use Rattle.results.specs.declared.Numbers.{Numbers}
@@ -41,22 +41,22 @@ pub data Key : Type 0 where
   vB : ℕ → Key
 
 -- The one place where the crossings of edge and facet are asked for
-unfoldable pub edge-facet : Solid → Solid → Half → ℕ → Crossing
-edge-facet a b e f = ef (edge a e) (facet b f)
+unfoldable pub edge_facet : Solid → Solid → Half → ℕ → Crossing
+edge_facet a b e f = ef (edge a e) (facet b f)
 
-unfoldable pub facet-edge : Solid → Solid → ℕ → Half → Crossing
-facet-edge a b f e = fe (facet a f) (edge b e)
+unfoldable pub facet_edge : Solid → Solid → ℕ → Half → Crossing
+facet_edge a b f e = fe (facet a f) (edge b e)
 
 -- "Inclusion: cA + cI·X(vA,B), cB + cI·X(A,vB), and cI·X for edge with facet."
 unfoldable pub inclusion : Operation → Solid → Solid → Key → ℤ
-inclusion op a b (vA i) = cA op +ℤ cI op *ℤ in-B (vertex a i) b
-inclusion op a b (eAfB e f) = cI op *ℤ count (edge-facet a b e f)
-inclusion op a b (fAeB f e) = cI op *ℤ count (facet-edge a b f e)
-inclusion op a b (vB i) = cB op +ℤ cI op *ℤ in-A a (vertex b i)
+inclusion op a b (vA i) = cA op +ℤ cI op *ℤ in_B (vertex a i) b
+inclusion op a b (eAfB e f) = cI op *ℤ count (edge_facet a b e f)
+inclusion op a b (fAeB f e) = cI op *ℤ count (facet_edge a b f e)
+inclusion op a b (vB i) = cB op +ℤ cI op *ℤ in_A a (vertex b i)
 
 -- "A new vertex in a result is A's point." The others are copied.
 unfoldable pub place : Solid → Solid → Key → Point
 place a b (vA i) = vertex a i
-place a b (eAfB e f) = (points (edge-facet a b e f)).a
-place a b (fAeB f e) = (points (facet-edge a b f e)).a
+place a b (eAfB e f) = (points (edge_facet a b e f)).a
+place a b (fAeB f e) = (points (facet_edge a b f e)).a
 place a b (vB i) = vertex b i

@@ -4,7 +4,7 @@ use Rattle.list_words.specs.Lists.{onto}
 use Rattle.solids.specs.declared.Answer.{Answer}
 use Rattle.solids.specs.declared.Verdict.{Verdict}
 use Rattle.solids.specs.declared.Verdict.TheVariants.{Accepted, Refused}
-use Rattle.solids.specs.Refusals.{answer-of, no-refusal, given, in_order, of-A, of-B}
+use Rattle.solids.specs.Refusals.{answer_of, no_refusal, given, in_order, of_A, of_B}
 use Rattle.solids.specs.Solids.{Solid}
 use Rattle.solids.specs.Admission.{admission}
 use Rattle.results.specs.declared.Made.{Made}
@@ -47,7 +47,7 @@ refusal a l = record { answer = a; vertices = 0; triangles = 0; lent = l }
 abbrev pub success : Result → Lent → Outcome
 success r l =
     record {
-      answer = no-refusal;
+      answer = no_refusal;
       vertices = length r.points / 3;
       triangles = length r.origins;
       lent = record { points = onto r.points l.points; corners = onto r.corners l.corners; origins = onto r.origins l.origins };
@@ -59,15 +59,15 @@ outcome (Refused n) r l = refusal n l
 
 -- "then A by 1 to 6, then B by 1 to 6, then 8"
 unfoldable pub operate : Operation → Solid → Solid → Lent → Outcome
-operate op a b l = let r = result op a b in outcome (in_order (of-A (admission a) ∷ of-B (admission b) ∷ given (answer-of 8) (too_short l r) ∷ [])) r l
+operate op a b l = let r = result op a b in outcome (in_order (of_A (admission a) ∷ of_B (admission b) ∷ given (answer_of 8) (too_short l r) ∷ [])) r l
 
 -- "An operation checks 7": an unknown operation code
-abbrev pub by-choice : Chosen → Solid → Solid → Lent → Outcome
-by-choice (Known op) a b l = operate op a b l
-by-choice Unknown a b l = refusal (answer-of 7) l
+abbrev pub by_choice : Chosen → Solid → Solid → Lent → Outcome
+by_choice (Known op) a b l = operate op a b l
+by_choice Unknown a b l = refusal (answer_of 7) l
 
 unfoldable pub operation : ℕ → Solid → Solid → Lent → Outcome
-operation code a b l = by-choice (chosen code) a b l
+operation code a b l = by_choice (chosen code) a b l
 
 -- what the call promises of its answer and of the lent lists as they then are
 abbrev pub Operate : ℕ → Solid → Solid → Lent → Made × Lent → Type 0

@@ -14,18 +14,18 @@ standing at numbers = record { block = at.0; before = at.1; numbers = numbers }
 abbrev pub part : Part → ℕ → ℕ → Part
 part l i n = record { block = l.block; before = 4 * i + l.before; numbers = take n (drop i l.numbers) }
 
-abbrev pub facet-part : Part → ℕ → Part
-facet-part l f = part l (3 * f) 3
+abbrev pub facet_part : Part → ℕ → Part
+facet_part l f = part l (3 * f) 3
 
-abbrev pub empty-front : Part → Part
-empty-front l = part l 0 0
+abbrev pub empty_front : Part → Part
+empty_front l = part l 0 0
 
 -- "From an origin and the two corner lists, what is shown is the part of A's or of B's own corner list that holds that facet; an origin beyond both
 -- (facet counts rounded down) shows the empty front of A's."
 unfoldable pub shown : Part → Part → ℕ → Part
 shown a b origin =
     let n = length a.numbers / 3 in
-    cond (ltb origin n) (facet-part a origin) (cond (ltb (origin - n) (length b.numbers / 3)) (facet-part b (origin - n)) (empty-front a))
+    cond (ltb origin n) (facet_part a origin) (cond (ltb (origin - n) (length b.numbers / 3)) (facet_part b (origin - n)) (empty_front a))
 
 -- the call: what it hands back, of A's and B's lists
 abbrev pub Shown : Part → Part → ℕ → Part → Type 0

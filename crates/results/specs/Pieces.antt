@@ -2,7 +2,7 @@
 use Rattle.std.specs.Prelude.{ℕ, cond, replicate, ℤ, neg_ℤ}
 use mathlib.Core.List.{List, ◌∷◌, ◌++◌, map, flat_map, zip}
 use Rattle.list_words.specs.Lists.{up_to, above, below, turned}
-use Rattle.solids.specs.Solids.{Solid, Half, facets, facet-half-edges, along, edge_of, signed}
+use Rattle.solids.specs.Solids.{Solid, Half, facets, facet_half_edges, along, edge_of, signed}
 use Rattle.results.specs.declared.End.{End}
 use Rattle.results.specs.Inclusion.{Key, vA, eAfB, fAeB, vB}
 
@@ -20,26 +20,26 @@ module _ (inclusion : Key → ℤ) where
   plain k = record { key = k; count = inclusion k }
 
   -- the inclusion, "signed as half-edges"
-  abbrev pub signed-as : Half → Key → SignedEnd
-  signed-as h k = record { key = k; count = signed h (inclusion k) }
+  abbrev pub signed_as : Half → Key → SignedEnd
+  signed_as h k = record { key = k; count = signed h (inclusion k) }
 
   -- "start (minus its inclusion), end (its inclusion), then crossings"
-  abbrev pub ends-along : Key → Key → List Key → List SignedEnd
-  ends-along start end crossings = minus (plain start) ∷ plain end ∷ map plain crossings
+  abbrev pub ends_along : Key → Key → List Key → List SignedEnd
+  ends_along start end crossings = minus (plain start) ∷ plain end ∷ map plain crossings
 
   -- "Edge of A: .. then crossings by facet of B"
-  unfoldable pub ends-of-eA : Solid → Half → List SignedEnd
-  ends-of-eA b e = ends-along (vA e.0) (vA e.1) (map (eAfB e) (up_to (facets b)))
+  unfoldable pub ends_of_eA : Solid → Half → List SignedEnd
+  ends_of_eA b e = ends_along (vA e.0) (vA e.1) (map (eAfB e) (up_to (facets b)))
 
   -- "Facet of A with facet of B: A's three half-edges (minus the inclusion with B's facet, signed as half-edges), then B's three (the inclusion with
   -- A's facet, signed so)."
-  unfoldable pub ends-of-fAfB : Solid → Solid → ℕ → ℕ → List SignedEnd
-  ends-of-fAfB a b f g =
-      map (λ h. minus (signed-as h (eAfB (edge_of h) g))) (facet-half-edges a f) ++ map (λ h. signed-as h (fAeB f (edge_of h))) (facet-half-edges b g)
+  unfoldable pub ends_of_fAfB : Solid → Solid → ℕ → ℕ → List SignedEnd
+  ends_of_fAfB a b f g =
+      map (λ h. minus (signed_as h (eAfB (edge_of h) g))) (facet_half_edges a f) ++ map (λ h. signed_as h (fAeB f (edge_of h))) (facet_half_edges b g)
 
   -- "Edge of B: start (minus), end (plus), then crossings by facet of A."
-  unfoldable pub ends-of-eB : Solid → Half → List SignedEnd
-  ends-of-eB a e = ends-along (vB e.0) (vB e.1) (map (λ f. fAeB f e) (up_to (facets a)))
+  unfoldable pub ends_of_eB : Solid → Half → List SignedEnd
+  ends_of_eB a e = ends_along (vB e.0) (vB e.1) (map (λ f. fAeB f e) (up_to (facets a)))
 
 -- ---- joining
 
@@ -59,5 +59,5 @@ unfoldable pub pieces : List End → List Half
 pieces es = zip (starts es) (stops es)
 
 -- "A half-edge against its edge has each piece turned round, in the same order."
-abbrev pub as-half : Half → List Half → List Half
-as-half h ps = cond (along h) ps (map turned ps)
+abbrev pub as_half : Half → List Half → List Half
+as_half h ps = cond (along h) ps (map turned ps)

@@ -12,14 +12,14 @@ keys a b =
     ++ (flat_map (λ f. map (fAeB f) (edges b)) (up_to (facets a)) ++ map vB (up_to (vertices b))))
 
 -- a key as numbers: which of the four, then what it names
-abbrev pub key-numbers : Key → List ℕ
-key-numbers (vA i) = 0 ∷ i ∷ []
-key-numbers (eAfB e f) = 1 ∷ e.0 ∷ e.1 ∷ f ∷ []
-key-numbers (fAeB f e) = 2 ∷ f ∷ e.0 ∷ e.1 ∷ []
-key-numbers (vB i) = 3 ∷ i ∷ []
+abbrev pub key_numbers : Key → List ℕ
+key_numbers (vA i) = 0 ∷ i ∷ []
+key_numbers (eAfB e f) = 1 ∷ e.0 ∷ e.1 ∷ f ∷ []
+key_numbers (fAeB f e) = 2 ∷ f ∷ e.0 ∷ e.1 ∷ []
+key_numbers (vB i) = 3 ∷ i ∷ []
 
 unfoldable pub same_key : Key → Key → Bool
-same_key k l = same (key-numbers k) (key-numbers l)
+same_key k l = same (key_numbers k) (key_numbers l)
 
 module _ (inclusion : Key → ℤ) where
   -- "each only if its inclusion is not 0, copied once"

@@ -4,29 +4,29 @@ use mathlib.Core.List.{List, [], ◌∷◌, Memᴰ}
 use Rattle.std.specs.Float.Ieee.{is_nan}
 use Rattle.list_words.specs.Lists.{turned}
 use Rattle.solids.specs.declared.Verdict.TheVariants.{Accepted}
-use Rattle.solids.specs.Solids.{Solid, Half, vertices, facets, corner, half-edges, number_of, edges}
+use Rattle.solids.specs.Solids.{Solid, Half, vertices, facets, corner, half_edges, number_of, edges}
 use Rattle.solids.specs.Admission.{beyond, admission}
 use Rattle.results.specs.declared.Operation.{Operation}
 use Rattle.results.specs.declared.Operation.TheVariants.{Intersection, Difference}
 use Rattle.results.specs.declared.Chosen.TheVariants.{Known}
 use Rattle.results.specs.Inclusion.{Key, vA, eAfB, fAeB, vB, chosen, inclusion}
-use Rattle.results.specs.Pieces.{SignedEnd, ends-of-eA}
+use Rattle.results.specs.Pieces.{SignedEnd, ends_of_eA}
 use Rattle.results.specs.Triangles.{Result, result}
 use Rattle.results.specs.Operation.{Lent, too_short, success, operation}
 use Rattle.robust.specs.LowerPoints.{LowerPoints}
 
 -- a result as a solid: its origins set aside
-abbrev pub solid-of : Result → Solid
-solid-of r = record { points = r.points; corners = r.corners }
+abbrev pub solid_of : Result → Solid
+solid_of r = record { points = r.points; corners = r.corners }
 
 -- "every triangle has three different corners", each below the vertex count
 pub record ThreeCorners (s : Solid) (t : ℕ) : Type 0 where
-  pub below-0 : corner s t 0 < vertices s
-  pub below-1 : corner s t 1 < vertices s
-  pub below-2 : corner s t 2 < vertices s
-  pub apart-01 : corner s t 0 ≢ corner s t 1
-  pub apart-12 : corner s t 1 ≢ corner s t 2
-  pub apart-20 : corner s t 2 ≢ corner s t 0
+  pub below_0 : corner s t 0 < vertices s
+  pub below_1 : corner s t 1 < vertices s
+  pub below_2 : corner s t 2 < vertices s
+  pub apart_01 : corner s t 0 ≢ corner s t 1
+  pub apart_12 : corner s t 1 ≢ corner s t 2
+  pub apart_20 : corner s t 2 ≢ corner s t 0
 
 -- three lists of ends with the same keys in the same order, and in the third the sum of the other two's counts
 abbrev pub AddUp : List SignedEnd → List SignedEnd → List SignedEnd → Type 0
@@ -49,22 +49,22 @@ pub record RobustResult (code : ℕ) (op : Operation) (a b : Solid) : Type 0 whe
   -- it is the result that the call gives, with room
   pub given : (l : Lent) → too_short l (result op a b) ≡ false → operation code a b l ≡ success (result op a b) l
   -- "each step P→Q in the result is met by as many Q→P"
-  pub closed : (h : Half) → number_of h (half-edges (solid-of (result op a b))) ≡ number_of (turned h) (half-edges (solid-of (result op a b)))
-  pub corners : (t : ℕ) → t < facets (solid-of (result op a b)) → ThreeCorners (solid-of (result op a b)) t
+  pub closed : (h : Half) → number_of h (half_edges (solid_of (result op a b))) ≡ number_of (turned h) (half_edges (solid_of (result op a b)))
+  pub corners : (t : ℕ) → t < facets (solid_of (result op a b)) → ThreeCorners (solid_of (result op a b)) t
   -- "every coordinate is within the limit"
   pub present : (x : Float) → Memᴰ x (result op a b).points → is_nan x ≡ false
   pub within : (x : Float) → Memᴰ x (result op a b).points → beyond x ≡ false
   -- "so the result is admitted wherever its sizes are"
   pub admitted :
-      vertices (solid-of (result op a b)) ≤ 128 → facets (solid-of (result op a b)) ≤ 256 → admission (solid-of (result op a b)) ≡ Accepted
+      vertices (solid_of (result op a b)) ≤ 128 → facets (solid_of (result op a b)) ≤ 256 → admission (solid_of (result op a b)) ≡ Accepted
   -- "For each edge of A, the signed ends kept by difference and by intersection add up, vertex by vertex and crossing by crossing"
   pub ends :
       (e : Half) → Memᴰ e (edges a)
-      → AddUp (ends-of-eA (inclusion Difference a b) b e) (ends-of-eA (inclusion Intersection a b) b e) (ends-of-eA own b e)
+      → AddUp (ends_of_eA (inclusion Difference a b) b e) (ends_of_eA (inclusion Intersection a b) b e) (ends_of_eA own b e)
 
 -- the whole of demand 3
 pub record Robust : Type 0 where
-  pub lower-points : LowerPoints
+  pub lower_points : LowerPoints
   -- "For any two admitted solids and any operation"
-  pub of-result :
+  pub of_result :
       (code : ℕ) (op : Operation) → chosen code ≡ Known op → (a b : Solid) → admission a ≡ Accepted → admission b ≡ Accepted → RobustResult code op a b

@@ -10,9 +10,9 @@ use Rattle.results.specs.declared.Operation.TheVariants.{Union, Intersection, Di
 use Rattle.results.specs.declared.Chosen.TheVariants.{Known, Unknown}
 use Rattle.results.specs.Inclusion.{chosen}
 use Rattle.results.specs.Operation.{refusal}
-use Rattle.solid_line.specs.Line.{letter, room, by-letter, program}
-use Rattle.solid_input.specs.Words.{of-bytes}
-use Rattle.solids.specs.Refusals.{answer-of}
+use Rattle.solid_line.specs.Line.{letter, room, by_letter, program}
+use Rattle.solid_input.specs.Words.{of_bytes}
+use Rattle.solids.specs.Refusals.{answer_of}
 
 -- ---- a code
 pub unknown : (code : ℕ) → 2 < code → chosen code ≡ Unknown
@@ -28,17 +28,17 @@ known (suc (suc zero)) h = (Difference, refl)
 known (suc (suc (suc n))) h = absurd (omega arith)
 
 -- ---- the length
-pub not-long : (op : Operation) (bs : List ℕ) → length bs ≤ 32767 → by-letter (Known op) bs ≡ of-bytes op bs
-unfolding of-bytes
-not-long op bs h = rw (by-letter, le-ltb 32768 (suc (length bs)) (omega arith))
+pub not_long : (op : Operation) (bs : List ℕ) → length bs ≤ 32767 → by_letter (Known op) bs ≡ of_bytes op bs
+unfolding of_bytes
+not_long op bs h = rw (by_letter, le-ltb 32768 (suc (length bs)) (omega arith))
 
 -- ---- the first byte
-pub no-letter : (bs : List ℕ) → length bs ≡ 0 → program bs ≡ refusal (answer-of 9) room
+pub no_letter : (bs : List ℕ) → length bs ≡ 0 → program bs ≡ refusal (answer_of 9) room
 unfolding program
-no-letter [] e = refl
-no-letter (b ∷ bs) e = absurd (omega arith)
+no_letter [] e = refl
+no_letter (b ∷ bs) e = absurd (omega arith)
 
-pub at-letter : (bs : List ℕ) → 0 < length bs → program bs ≡ by-letter (letter (get_or bs 0 0)) (drop 1 bs)
+pub at_letter : (bs : List ℕ) → 0 < length bs → program bs ≡ by_letter (letter (get_or bs 0 0)) (drop 1 bs)
 unfolding program
-at-letter [] h = absurd (omega arith)
-at-letter (b ∷ bs) h = refl
+at_letter [] h = absurd (omega arith)
+at_letter (b ∷ bs) h = refl

@@ -20,7 +20,7 @@ pub enum Taken {
 // what a file holds, lists of whole threes.
 fn admitted(w: Walk, points: &[f64], corners: &[u32]) -> Verdict
     requires { (length points.now ≡ 384) × (length corners.now ≡ 768) }
-    ensures { result ≡ Si.kept-admission w points.now corners.now }
+    ensures { result ≡ Si.kept_admission w points.now corners.now }
 {
     if w.vertices > 128 {
         return Verdict::Refused(Answer::TOO_MANY);
@@ -43,7 +43,7 @@ fn of_walks(
     bp: &[f64; 384],
     bc: &[u32; 768],
 ) -> Taken
-    ensures { result ≡ Si.of-walks code first ap.now ac.now second bp.now bc.now }
+    ensures { result ≡ Si.of_walks code first ap.now ac.now second bp.now bc.now }
 {
     let of_a = admitted(first, ap, ac).told_of(solids::SOLID_A);
     if let Verdict::Refused(n) = of_a {
@@ -66,7 +66,7 @@ fn of_bytes(
     bc: &mut [u32; 768],
 ) -> Taken
     requires { Si.Rooms ap.old ac.old bp.old bc.old }
-    ensures { (op : Operation) → In.chosen code ≡ Known op → Si.Tells (Si.of-bytes op bytes.now) result ap.new ac.new bp.new bc.new }
+    ensures { (op : Operation) → In.chosen code ≡ Known op → Si.Tells (Si.of_bytes op bytes.now) result ap.new ac.new bp.new bc.new }
 {
     let first = housefile_reader::scan(bytes, ap, ac);
     if first.fault {
@@ -93,7 +93,7 @@ fn by_code(
     bc: &mut [u32; 768],
 ) -> Taken
     requires { Si.Rooms ap.old ac.old bp.old bc.old }
-    ensures { Si.Tells (Li.by-letter (In.chosen code) bytes.now) result ap.new ac.new bp.new bc.new }
+    ensures { Si.Tells (Li.by_letter (In.chosen code) bytes.now) result ap.new ac.new bp.new bc.new }
 {
     if code > 2 {
         Taken::Refused(Answer::UNKNOWN_CODE)

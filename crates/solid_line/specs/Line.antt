@@ -2,7 +2,7 @@
 use Rattle.std.specs.Prelude.{ℕ, suc, ◌+◌, ◌*◌, true, false, cond, List, [], ◌∷◌, ◌++◌, length, drop, replicate, ltb, eqb}
 use Rattle.numbers.specs.Digits.{digits}
 use Rattle.points.specs.Points.{zero_number}
-use Rattle.solids.specs.Refusals.{answer-of}
+use Rattle.solids.specs.Refusals.{answer_of}
 use Rattle.results.specs.declared.Operation.{Operation}
 use Rattle.results.specs.declared.Operation.TheVariants.{Union, Intersection, Difference}
 use Rattle.results.specs.declared.Chosen.{Chosen}
@@ -24,28 +24,28 @@ behind fault bs = []
 behind (laid used xs cs) bs = drop used bs
 
 -- "a layout fault in either file or trailing bytes give 9; then come A's other refusals, B's, and last 8"; n is the length of both files
-abbrev pub of-files : Operation → Layout → Layout → ℕ → Outcome
-of-files op fault second n = refusal (answer-of 9) room
-of-files op (laid i xs cs) fault n = refusal (answer-of 9) room
-of-files op (laid i xs cs) (laid j ys ds) n =
+abbrev pub of_files : Operation → Layout → Layout → ℕ → Outcome
+of_files op fault second n = refusal (answer_of 9) room
+of_files op (laid i xs cs) fault n = refusal (answer_of 9) room
+of_files op (laid i xs cs) (laid j ys ds) n =
     elim (eqb (i + j) n) [
       | true ↦ operate op (record { points = xs; corners = cs }) (record { points = ys; corners = ds }) room
-      | false ↦ refusal (answer-of 9) room
+      | false ↦ refusal (answer_of 9) room
     ]
 
 -- "an unknown letter gives 7 before the files are looked at; then input over 32,768 bytes"
-abbrev pub by-letter : Chosen → List ℕ → Outcome
-by-letter Unknown bs = refusal (answer-of 7) room
-by-letter (Known op) bs =
+abbrev pub by_letter : Chosen → List ℕ → Outcome
+by_letter Unknown bs = refusal (answer_of 7) room
+by_letter (Known op) bs =
     elim (ltb 32768 (suc (length bs))) [
-      | true ↦ refusal (answer-of 9) room
-      | false ↦ let first = layout bs in of-files op first (layout (behind first bs)) (length bs)
+      | true ↦ refusal (answer_of 9) room
+      | false ↦ let first = layout bs in of_files op first (layout (behind first bs)) (length bs)
     ]
 
 -- "No letter gives 9"
 unfoldable pub program : List ℕ → Outcome
-program [] = refusal (answer-of 9) room
-program (c ∷ bs) = by-letter (letter c) bs
+program [] = refusal (answer_of 9) room
+program (c ∷ bs) = by_letter (letter c) bs
 
 -- "It prints one line: answer, vertices, triangles, separated by one blank."
 unfoldable pub line : Outcome → List ℕ

@@ -5,24 +5,24 @@ use Prim.Native.Nat.{ℕ, ◌+◌, ◌≤◌, ◌<◌}
 use native.Mathlib.Omega.{arith}
 use lib.ListN.{length, set, replicate, length-append}
 use lib.Seq.{sets}
-use Rattle.list_stores.proofs.Stores.{onto-append}
+use Rattle.list_stores.proofs.Stores.{onto_append}
 use Rattle.solid_line.specs.declared.Text.{Text}
 use Rattle.solid_line.specs.Answers.{text, Printed}
 use Rattle.solid_printing.specs.Words.{Then}
 
 -- ---- what is stored behind it
 
-pub and-stored : (t : Text) (l : List ℕ) → t.used + length l ≤ 64 → Then t l (record { bytes = sets t.bytes t.used l; used = t.used + length l })
-and-stored t l h =
+pub and_stored : (t : Text) (l : List ℕ) → t.used + length l ≤ 64 → Then t l (record { bytes = sets t.bytes t.used l; used = t.used + length l })
+and_stored t l h =
     record {
       longer = refl;
       says = λ before e.
           let n : t.used ≡ length before = ap (λ x. x.used) e in
-          rw e (ap₂ (λ x y. record { bytes = x; used = y }) (onto-append (replicate 64 0) before l (omega arith)) (sym (length-append before l)));
+          rw e (ap₂ (λ x y. record { bytes = x; used = y }) (onto_append (replicate 64 0) before l (omega arith)) (sym (length-append before l)));
     }
 
 pub one_more : (t : Text) (b : ℕ) → t.used < 64 → Then t (b ∷ []) (record { bytes = set t.bytes t.used b; used = t.used + 1 })
-one_more t b h = and-stored t (b ∷ []) (omega arith)
+one_more t b h = and_stored t (b ∷ []) (omega arith)
 
 pub and_then : {t r q : Text} {k l : List ℕ} → Then t k r → Then r l q → Then t (k ++ l) q
 and_then {t} {r} {q} {k} {l} d e =

@@ -7,48 +7,48 @@ use native.Mathlib.Omega.{arith}
 use native.Mathlib.Numerals.{add-one}
 use native.Mathlib.Decide.{dec_lt}
 use Rattle.list_words.specs.Lists.{up_to, any}
-use Rattle.list_words.proofs.Sums.{All, all-at, all-map-of, all_of_map}
-use Rattle.list_words.proofs.Tests.{any_false, false-any}
-use Rattle.list_words.proofs.UpTo.{all-upTo, mem-upTo}
+use Rattle.list_words.proofs.Sums.{All, all_at, all_map_of, all_of_map}
+use Rattle.list_words.proofs.Tests.{any_false, false_any}
+use Rattle.list_words.proofs.UpTo.{all_up_to, mem_up_to}
 use Rattle.solids.specs.declared.Answer.{Answer}
 use Rattle.solids.specs.declared.Verdict.{Verdict}
 use Rattle.solids.specs.declared.Verdict.TheVariants.{Accepted, Refused}
 use Rattle.solids.specs.Refusals.{answer, given, in_order, at_each, told_of}
 
-pub refused-accepted : (a : Answer) → Refused a ≡ Accepted → ⊥
-refused-accepted a e = let z : ◌≡◌ {A = ℕ} 0 1 = cc in omega arith
+pub refused_accepted : (a : Answer) → Refused a ≡ Accepted → ⊥
+refused_accepted a e = let z : ◌≡◌ {A = ℕ} 0 1 = cc in omega arith
 
 -- ---- one check
-pub not-given : (a : Answer) (b : Bool) → given a b ≡ Accepted → b ≡ false
-not-given a true e = absurd (refused-accepted a e)
-not-given a false e = refl
+pub not_given : (a : Answer) (b : Bool) → given a b ≡ Accepted → b ≡ false
+not_given a true e = absurd (refused_accepted a e)
+not_given a false e = refl
 
-pub was-given : (a c : Answer) (b : Bool) → given a b ≡ Refused c → (b ≡ true) × (a ≡ c)
+pub was_given : (a c : Answer) (b : Bool) → given a b ≡ Refused c → (b ≡ true) × (a ≡ c)
 unfolding answer
-was-given a c true e = (refl, ap answer e)
-was-given a c false e = absurd (refused-accepted c (sym e))
+was_given a c true e = (refl, ap answer e)
+was_given a c false e = absurd (refused_accepted c (sym e))
 
 -- told as A's or B's it accepts exactly where it did
-pub told-accepted : (who : ℕ) (v : Verdict) → told_of who v ≡ Accepted → v ≡ Accepted
-told-accepted who Accepted e = refl
-told-accepted who (Refused a) e = absurd (refused-accepted _ e)
+pub told_accepted : (who : ℕ) (v : Verdict) → told_of who v ≡ Accepted → v ≡ Accepted
+told_accepted who Accepted e = refl
+told_accepted who (Refused a) e = absurd (refused_accepted _ e)
 
 -- ---- several checks
-pub all-accepted : (vs : List Verdict) → in_order vs ≡ Accepted → All (λ v. v ≡ Accepted) vs
+pub all_accepted : (vs : List Verdict) → in_order vs ≡ Accepted → All (λ v. v ≡ Accepted) vs
 unfolding in_order
-all-accepted [] e = tt
-all-accepted (Accepted ∷ vs) e = (refl, all-accepted vs e)
-all-accepted (Refused a ∷ vs) e = absurd (refused-accepted a e)
+all_accepted [] e = tt
+all_accepted (Accepted ∷ vs) e = (refl, all_accepted vs e)
+all_accepted (Refused a ∷ vs) e = absurd (refused_accepted a e)
 
-pub accepted-all : (vs : List Verdict) → All (λ v. v ≡ Accepted) vs → in_order vs ≡ Accepted
+pub accepted_all : (vs : List Verdict) → All (λ v. v ≡ Accepted) vs → in_order vs ≡ Accepted
 unfolding in_order
-accepted-all [] a = refl
-accepted-all (v ∷ vs) a = rw a.0 (accepted-all vs a.1)
+accepted_all [] a = refl
+accepted_all (v ∷ vs) a = rw a.0 (accepted_all vs a.1)
 
 -- a refusal of the first checks decides
 pub early : (vs ws : List Verdict) (a : Answer) → in_order vs ≡ Refused a → in_order (vs ++ ws) ≡ Refused a
 unfolding in_order
-early [] ws a e = absurd (refused-accepted a (sym e))
+early [] ws a e = absurd (refused_accepted a (sym e))
 early (Accepted ∷ vs) ws a e = early vs ws a e
 early (Refused b ∷ vs) ws a e = e
 
@@ -57,7 +57,7 @@ pub late : (vs ws : List Verdict) → in_order vs ≡ Accepted → in_order (vs 
 unfolding in_order
 late [] ws e = refl
 late (Accepted ∷ vs) ws e = late vs ws e
-late (Refused b ∷ vs) ws e = absurd (refused-accepted b e)
+late (Refused b ∷ vs) ws e = absurd (refused_accepted b e)
 
 -- ---- a check of each number below n
 module _ (check : ℕ → Verdict) where
@@ -87,11 +87,11 @@ module _ (check : ℕ → Verdict) where
   ]
 
   -- all accept exactly where each does
-  pub each-accepts : (n : ℕ) → at_each n check ≡ Accepted → (i : ℕ) → i < n → check i ≡ Accepted
-  each-accepts n e i h = all-at (λ i. check i ≡ Accepted) (mem-upTo n i h) (all_of_map (λ v. v ≡ Accepted) check (up_to n) (all-accepted (map check (up_to n)) e))
+  pub each_accepts : (n : ℕ) → at_each n check ≡ Accepted → (i : ℕ) → i < n → check i ≡ Accepted
+  each_accepts n e i h = all_at (λ i. check i ≡ Accepted) (mem_up_to n i h) (all_of_map (λ v. v ≡ Accepted) check (up_to n) (all_accepted (map check (up_to n)) e))
 
-  pub accepts-each : (n : ℕ) → ((i : ℕ) → i < n → check i ≡ Accepted) → at_each n check ≡ Accepted
-  accepts-each n h = accepted-all (map check (up_to n)) (all-map-of (λ v. v ≡ Accepted) check (up_to n) (all-upTo (λ i. check i ≡ Accepted) n h))
+  pub accepts_each : (n : ℕ) → ((i : ℕ) → i < n → check i ≡ Accepted) → at_each n check ≡ Accepted
+  accepts_each n h = accepted_all (map check (up_to n)) (all_map_of (λ v. v ≡ Accepted) check (up_to n) (all_up_to (λ i. check i ≡ Accepted) n h))
 
   -- a refusal is the first one's
   pub record Refuses (n : ℕ) (a : Answer) : Type 0 where
@@ -100,24 +100,24 @@ module _ (check : ℕ → Verdict) where
     pub there : check place ≡ Refused a
     pub before : (i : ℕ) → i < place → check i ≡ Accepted
 
-  pub each-refused : (n : ℕ) (a : Answer) → at_each n check ≡ Refused a → Refuses n a
+  pub each_refused : (n : ℕ) (a : Answer) → at_each n check ≡ Refused a → Refuses n a
   unfolding up_to in_order
-  each-refused zero a e = absurd (refused-accepted a (sym e))
-  each-refused (suc n) a e = by (at_each n check) refl (each-refused n a)
+  each_refused zero a e = absurd (refused_accepted a (sym e))
+  each_refused (suc n) a e = by (at_each n check) refl (each_refused n a)
     where
       by : (v : Verdict) → at_each n check ≡ v → (at_each n check ≡ Refused a → Refuses n a) → Refuses (suc n) a
-      by Accepted d shorter = record { place = n; below = omega arith; there = sym (last n d) ∙ e; before = each-accepts n d }
+      by Accepted d shorter = record { place = n; below = omega arith; there = sym (last n d) ∙ e; before = each_accepts n d }
       by (Refused b) d shorter =
           let r = shorter (d ∙ sym (longer n b d) ∙ e) in
           record { place = r.place; below = omega (arith, r.below); there = r.there; before = r.before }
 
 -- ---- a check that is one test at each number
 module _ (a : ℕ → Answer) (test : ℕ → Bool) (n : ℕ) where
-  pub none-given : at_each n (λ i. given (a i) (test i)) ≡ Accepted → any test (up_to n) ≡ false
-  none-given e =
-      false-any test (up_to n) (all-upTo (λ i. test i ≡ false) n (λ i h. not-given (a i) (test i) (each-accepts (λ i. given (a i) (test i)) n e i h)))
+  pub none_given : at_each n (λ i. given (a i) (test i)) ≡ Accepted → any test (up_to n) ≡ false
+  none_given e =
+      false_any test (up_to n) (all_up_to (λ i. test i ≡ false) n (λ i h. not_given (a i) (test i) (each_accepts (λ i. given (a i) (test i)) n e i h)))
 
-  pub given-none : any test (up_to n) ≡ false → at_each n (λ i. given (a i) (test i)) ≡ Accepted
-  given-none e =
-      accepts-each (λ i. given (a i) (test i)) n
-      (λ i h. ap (given (a i)) (all-at (λ i. test i ≡ false) (mem-upTo n i h) (any_false test (up_to n) e)))
+  pub given_none : any test (up_to n) ≡ false → at_each n (λ i. given (a i) (test i)) ≡ Accepted
+  given_none e =
+      accepts_each (λ i. given (a i) (test i)) n
+      (λ i h. ap (given (a i)) (all_at (λ i. test i ≡ false) (mem_up_to n i h) (any_false test (up_to n) e)))

@@ -8,95 +8,95 @@ use Rattle.points.specs.declared.Point.{Point}
 use Rattle.solids.specs.declared.Answer.{Answer}
 use Rattle.solids.specs.declared.Verdict.{Verdict}
 use Rattle.solids.specs.declared.Verdict.TheVariants.{Accepted, Refused}
-use Rattle.solids.specs.Refusals.{in_order, on-solid, on-point, no-refusal}
+use Rattle.solids.specs.Refusals.{in_order, on_solid, on_point, no_refusal}
 use Rattle.solids.specs.Solids.{Solid}
 use Rattle.solids.specs.Admission.{uneven, too_many, blank, out_of_range}
-use Rattle.solids.specs.Admission.{check-lengths, check-sizes, check-blanks, check-limit, check-corners, check-closure, admission, point-admission}
+use Rattle.solids.specs.Admission.{check_lengths, check_sizes, check_blanks, check_limit, check_corners, check_closure, admission, point_admission}
 use Rattle.solids.specs.declared.Counted.{Counted}
-use Rattle.solids.specs.Containment.{in-A, in-B, counted, count-as-A, count-as-B}
-use Rattle.solids.specs.Words.{contained, count-as}
-use Rattle.solids.proofs.Checks.{early, all-accepted, not-given}
+use Rattle.solids.specs.Containment.{in_A, in_B, counted, count_as_A, count_as_B}
+use Rattle.solids.specs.Words.{contained, count_as}
+use Rattle.solids.proofs.Checks.{early, all_accepted, not_given}
 
 -- ---- the checks on one solid
 module _ (s : Solid) where
-  pub first-1 : uneven s ≡ true → admission s ≡ Refused (on-solid 1 0)
-  unfolding admission in_order check-lengths
-  first-1 e = rw e
+  pub first_1 : uneven s ≡ true → admission s ≡ Refused (on_solid 1 0)
+  unfolding admission in_order check_lengths
+  first_1 e = rw e
 
   -- 1 and 2 together look at lengths alone
-  abbrev pub check-lists : Verdict
-  check-lists = in_order (check-lengths s ∷ check-sizes s ∷ [])
+  abbrev pub check_lists : Verdict
+  check_lists = in_order (check_lengths s ∷ check_sizes s ∷ [])
 
-  pub first-lists : (a : Answer) → check-lists ≡ Refused a → admission s ≡ Refused a
+  pub first_lists : (a : Answer) → check_lists ≡ Refused a → admission s ≡ Refused a
   unfolding admission
-  first-lists a e = early (check-lengths s ∷ check-sizes s ∷ []) _ a e
+  first_lists a e = early (check_lengths s ∷ check_sizes s ∷ []) _ a e
 
-  pub lists-fine : check-lists ≡ Accepted → (uneven s ≡ false) × (too_many s ≡ false)
-  unfolding check-lengths check-sizes
-  lists-fine e = let (c1, (c2, end)) = all-accepted _ e in (not-given _ _ c1, not-given _ _ c2)
+  pub lists_fine : check_lists ≡ Accepted → (uneven s ≡ false) × (too_many s ≡ false)
+  unfolding check_lengths check_sizes
+  lists_fine e = let (c1, (c2, end)) = all_accepted _ e in (not_given _ _ c1, not_given _ _ c2)
 
-  module _ (no-1 : uneven s ≡ false) where
-    pub then-2 : too_many s ≡ true → admission s ≡ Refused (on-solid 2 0)
-    unfolding admission in_order check-lengths check-sizes
-    then-2 e = rw (no-1, e)
+  module _ (no_1 : uneven s ≡ false) where
+    pub then_2 : too_many s ≡ true → admission s ≡ Refused (on_solid 2 0)
+    unfolding admission in_order check_lengths check_sizes
+    then_2 e = rw (no_1, e)
 
-    module _ (no-2 : too_many s ≡ false) where
-      pub then-3 : (a : Answer) → check-blanks s ≡ Refused a → admission s ≡ Refused a
-      unfolding admission in_order check-lengths check-sizes
-      then-3 a e = rw (no-1, no-2, e)
+    module _ (no_2 : too_many s ≡ false) where
+      pub then_3 : (a : Answer) → check_blanks s ≡ Refused a → admission s ≡ Refused a
+      unfolding admission in_order check_lengths check_sizes
+      then_3 a e = rw (no_1, no_2, e)
 
-      module _ (no-3 : check-blanks s ≡ Accepted) where
-        pub then-4 : (a : Answer) → check-limit s ≡ Refused a → admission s ≡ Refused a
-        unfolding admission in_order check-lengths check-sizes
-        then-4 a e = rw (no-1, no-2, no-3, e)
+      module _ (no_3 : check_blanks s ≡ Accepted) where
+        pub then_4 : (a : Answer) → check_limit s ≡ Refused a → admission s ≡ Refused a
+        unfolding admission in_order check_lengths check_sizes
+        then_4 a e = rw (no_1, no_2, no_3, e)
 
-        module _ (no-4 : check-limit s ≡ Accepted) where
-          pub then-10-and-11 : (a : Answer) → check-corners s ≡ Refused a → admission s ≡ Refused a
-          unfolding admission in_order check-lengths check-sizes
-          then-10-and-11 a e = rw (no-1, no-2, no-3, no-4, e)
+        module _ (no_4 : check_limit s ≡ Accepted) where
+          pub then_10_and_11 : (a : Answer) → check_corners s ≡ Refused a → admission s ≡ Refused a
+          unfolding admission in_order check_lengths check_sizes
+          then_10_and_11 a e = rw (no_1, no_2, no_3, no_4, e)
 
-          module _ (no-10-and-11 : check-corners s ≡ Accepted) where
-            pub last-6 : (v : Verdict) → check-closure s ≡ v → admission s ≡ v
-            unfolding admission in_order check-lengths check-sizes
-            last-6 Accepted e = rw (no-1, no-2, no-3, no-4, no-10-and-11, e)
-            last-6 (Refused a) e = rw (no-1, no-2, no-3, no-4, no-10-and-11, e)
+          module _ (no_10_and_11 : check_corners s ≡ Accepted) where
+            pub last_6 : (v : Verdict) → check_closure s ≡ v → admission s ≡ v
+            unfolding admission in_order check_lengths check_sizes
+            last_6 Accepted e = rw (no_1, no_2, no_3, no_4, no_10_and_11, e)
+            last_6 (Refused a) e = rw (no_1, no_2, no_3, no_4, no_10_and_11, e)
 
 -- ---- the checks on a point: 3, then 4
 module _ (v : Point) where
-  pub point-first-3 : blank v ≡ true → point-admission v ≡ Refused (on-point 3)
-  unfolding point-admission in_order
-  point-first-3 e = rw e
+  pub point_first_3 : blank v ≡ true → point_admission v ≡ Refused (on_point 3)
+  unfolding point_admission in_order
+  point_first_3 e = rw e
 
-  module _ (no-3 : blank v ≡ false) where
-    pub point-then-4 : out_of_range v ≡ true → point-admission v ≡ Refused (on-point 4)
-    unfolding point-admission in_order
-    point-then-4 e = rw (no-3, e)
+  module _ (no_3 : blank v ≡ false) where
+    pub point_then_4 : out_of_range v ≡ true → point_admission v ≡ Refused (on_point 4)
+    unfolding point_admission in_order
+    point_then_4 e = rw (no_3, e)
 
-    pub point-else-accepted : out_of_range v ≡ false → point-admission v ≡ Accepted
-    unfolding point-admission in_order
-    point-else-accepted e = rw (no-3, e)
+    pub point_else_accepted : out_of_range v ≡ false → point_admission v ≡ Accepted
+    unfolding point_admission in_order
+    point_else_accepted e = rw (no_3, e)
 
 -- ---- "A point count checks the point by 3 and 4, then the solid by 1 to 6"
-abbrev pub no-count : Answer → Counted
-no-count a = record { answer = a; count = pos 0 }
+abbrev pub no_count : Answer → Counted
+no_count a = record { answer = a; count = pos 0 }
 
 module _ (v : Point) (s : Solid) where
-  pub count-point-first : (n : Answer) → point-admission v ≡ Refused n → (count-as-A v s ≡ no-count n) × (count-as-B v s ≡ no-count n)
-  unfolding count-as-A count-as-B in_order
-  count-point-first n e = (rw e, rw e)
+  pub count_point_first : (n : Answer) → point_admission v ≡ Refused n → (count_as_A v s ≡ no_count n) × (count_as_B v s ≡ no_count n)
+  unfolding count_as_A count_as_B in_order
+  count_point_first n e = (rw e, rw e)
 
-  module _ (fine : point-admission v ≡ Accepted) where
-    pub count-then-solid : (n : Answer) → admission s ≡ Refused n → (count-as-A v s ≡ no-count n) × (count-as-B v s ≡ no-count n)
-    unfolding count-as-A count-as-B in_order
-    count-then-solid n e = (rw (fine, e), rw (fine, e))
+  module _ (fine : point_admission v ≡ Accepted) where
+    pub count_then_solid : (n : Answer) → admission s ≡ Refused n → (count_as_A v s ≡ no_count n) × (count_as_B v s ≡ no_count n)
+    unfolding count_as_A count_as_B in_order
+    count_then_solid n e = (rw (fine, e), rw (fine, e))
 
-    pub count-else : admission s ≡ Accepted
-        → (count-as-A v s ≡ record { answer = no-refusal; count = in-A s v }) × (count-as-B v s ≡ record { answer = no-refusal; count = in-B v s })
-    unfolding count-as-A count-as-B in_order
-    count-else e = (rw (fine, e), rw (fine, e))
+    pub count_else : admission s ≡ Accepted
+        → (count_as_A v s ≡ record { answer = no_refusal; count = in_A s v }) × (count_as_B v s ≡ record { answer = no_refusal; count = in_B v s })
+    unfolding count_as_A count_as_B in_order
+    count_else e = (rw (fine, e), rw (fine, e))
 
 -- a count with its two verdicts, with the solid as A or as B
-pub count-as-is : (as-b : Bool) (v : Point) (s : Solid) → count-as as-b v s ≡ counted (in_order (point-admission v ∷ admission s ∷ [])) (contained as-b v s)
-unfolding count-as contained count-as-A count-as-B
-count-as-is true v s = refl
-count-as-is false v s = refl
+pub count_as_is : (as_b : Bool) (v : Point) (s : Solid) → count_as as_b v s ≡ counted (in_order (point_admission v ∷ admission s ∷ [])) (contained as_b v s)
+unfolding count_as contained count_as_A count_as_B
+count_as_is true v s = refl
+count_as_is false v s = refl

@@ -7,33 +7,33 @@ use Rattle.crossings.specs.Crossings.{S, vf, fv}
 use Rattle.solids.specs.declared.Counted.{Counted}
 use Rattle.solids.specs.declared.Verdict.{Verdict}
 use Rattle.solids.specs.declared.Verdict.TheVariants.{Accepted, Refused}
-use Rattle.solids.specs.Refusals.{no-refusal, in_order}
+use Rattle.solids.specs.Refusals.{no_refusal, in_order}
 use Rattle.solids.specs.Solids.{Solid, facets, facet}
-use Rattle.solids.specs.Admission.{admission, point-admission}
+use Rattle.solids.specs.Admission.{admission, point_admission}
 
 -- "X(vA,B) = sum S(vA,f)": how often B contains a vertex of A
-unfoldable pub in-B : Point → Solid → ℤ
-in-B v b = sum_of (λ f. S Z (vf v (facet b f))) (up_to (facets b))
+unfoldable pub in_B : Point → Solid → ℤ
+in_B v b = sum_of (λ f. S Z (vf v (facet b f))) (up_to (facets b))
 
 -- "X(A,vB) = - sum S(f,vB)": how often A contains a vertex of B
-unfoldable pub in-A : Solid → Point → ℤ
-in-A a v = neg_ℤ (sum_of (λ f. S Z (fv (facet a f) v)) (up_to (facets a)))
+unfoldable pub in_A : Solid → Point → ℤ
+in_A a v = neg_ℤ (sum_of (λ f. S Z (fv (facet a f) v)) (up_to (facets a)))
 
 -- "Every refusal returns its number with all counts zero"
 abbrev pub counted : Verdict → ℤ → Counted
-counted Accepted n = record { answer = no-refusal; count = n }
+counted Accepted n = record { answer = no_refusal; count = n }
 counted (Refused a) n = record { answer = a; count = pos 0 }
 
 -- "A point count checks the point by 3 and 4, then the solid by 1 to 6; there is one such call for the solid as A and one for the solid as B."
-unfoldable pub count-as-A : Point → Solid → Counted
-count-as-A v s = counted (in_order (point-admission v ∷ admission s ∷ [])) (in-A s v)
+unfoldable pub count_as_A : Point → Solid → Counted
+count_as_A v s = counted (in_order (point_admission v ∷ admission s ∷ [])) (in_A s v)
 
-unfoldable pub count-as-B : Point → Solid → Counted
-count-as-B v s = counted (in_order (point-admission v ∷ admission s ∷ [])) (in-B v s)
+unfoldable pub count_as_B : Point → Solid → Counted
+count_as_B v s = counted (in_order (point_admission v ∷ admission s ∷ [])) (in_B v s)
 
 -- what each call promises of its answer r
 abbrev pub CountAsA : Point → Solid → Counted → Type 0
-CountAsA v s r = r ≡ count-as-A v s
+CountAsA v s r = r ≡ count_as_A v s
 
 abbrev pub CountAsB : Point → Solid → Counted → Type 0
-CountAsB v s r = r ≡ count-as-B v s
+CountAsB v s r = r ≡ count_as_B v s

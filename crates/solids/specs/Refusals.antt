@@ -10,36 +10,36 @@ use Rattle.solids.specs.declared.Verdict.TheVariants.{Accepted, Refused}
 abbrev pub nobody : ℕ
 nobody = 0
 
-abbrev pub solid-A : ℕ
-solid-A = 1
+abbrev pub solid_A : ℕ
+solid_A = 1
 
-abbrev pub solid-B : ℕ
-solid-B = 2
+abbrev pub solid_B : ℕ
+solid_B = 2
 
-abbrev pub only-solid : ℕ
-only-solid = 3
+abbrev pub only_solid : ℕ
+only_solid = 3
 
-abbrev pub the-point : ℕ
-the-point = 4
+abbrev pub the_point : ℕ
+the_point = 4
 
 -- the answer with a number that speaks of nobody; "Others carry place 0."
-abbrev pub answer-of : ℕ → Answer
-answer-of n = record { number = n; who = nobody; place = 0 }
+abbrev pub answer_of : ℕ → Answer
+answer_of n = record { number = n; who = nobody; place = 0 }
 
 -- "Answer 0 is success."
-abbrev pub no-refusal : Answer
-no-refusal = answer-of 0
+abbrev pub no_refusal : Answer
+no_refusal = answer_of 0
 
 -- a refusal on the only solid, at a place: the number of a vertex or a facet
-abbrev pub on-solid : ℕ → ℕ → Answer
-on-solid n place = record { number = n; who = only-solid; place = place }
+abbrev pub on_solid : ℕ → ℕ → Answer
+on_solid n place = record { number = n; who = only_solid; place = place }
 
 -- a refusal on the point
-abbrev pub on-point : ℕ → Answer
-on-point n = record { number = n; who = the-point; place = 0 }
+abbrev pub on_point : ℕ → Answer
+on_point n = record { number = n; who = the_point; place = 0 }
 
 unfoldable pub answer : Verdict → Answer
-answer Accepted = no-refusal
+answer Accepted = no_refusal
 answer (Refused a) = a
 
 -- a check of the table: its refusal is "given exactly when" the test holds
@@ -62,8 +62,8 @@ abbrev pub told_of : ℕ → Verdict → Verdict
 told_of who Accepted = Accepted
 told_of who (Refused a) = Refused record { number = a.number; who = who; place = a.place }
 
-abbrev pub of-A : Verdict → Verdict
-of-A v = told_of solid-A v
+abbrev pub of_A : Verdict → Verdict
+of_A v = told_of solid_A v
 
-abbrev pub of-B : Verdict → Verdict
-of-B v = told_of solid-B v
+abbrev pub of_B : Verdict → Verdict
+of_B v = told_of solid_B v

@@ -48,14 +48,14 @@ abbrev pub same_half : Half → Half → Bool
 same_half h k = eqb h.0 k.0 && eqb h.1 k.1
 
 -- "A facet p,q,r has the half-edges p→q, q→r, r→p."
-abbrev pub half-edges-of : ℕ → ℕ → ℕ → List Half
-half-edges-of p q r = (p, q) ∷ (q, r) ∷ (r, p) ∷ []
+abbrev pub half_edges_of : ℕ → ℕ → ℕ → List Half
+half_edges_of p q r = (p, q) ∷ (q, r) ∷ (r, p) ∷ []
 
-abbrev pub facet-half-edges : Solid → ℕ → List Half
-facet-half-edges s f = half-edges-of (corner s f 0) (corner s f 1) (corner s f 2)
+abbrev pub facet_half_edges : Solid → ℕ → List Half
+facet_half_edges s f = half_edges_of (corner s f 0) (corner s f 1) (corner s f 2)
 
-unfoldable pub half-edges : Solid → List Half
-half-edges s = flat_map (facet-half-edges s) (up_to (facets s))
+unfoldable pub half_edges : Solid → List Half
+half_edges s = flat_map (facet_half_edges s) (up_to (facets s))
 
 -- the half-edges P→Q of a list, in number
 abbrev pub number_of : Half → List Half → ℕ
@@ -68,11 +68,11 @@ unfoldable pub pairs : ℕ → List Half
 pairs n = flat_map (λ p. map (λ q. (p, q)) (up_to n)) (up_to n)
 
 -- "An edge joins two vertices that some half-edge joins; it starts at the lower number."
-unfoldable pub is-edge : List Half → Half → Bool
-is-edge hs e = ltb e.0 e.1 && ltb 0 (number_of e hs + number_of (turned e) hs)
+unfoldable pub is_edge : List Half → Half → Bool
+is_edge hs e = ltb e.0 e.1 && ltb 0 (number_of e hs + number_of (turned e) hs)
 
 unfoldable pub edges : Solid → List Half
-edges s = let hs = half-edges s in keep (is-edge hs) (pairs (vertices s))
+edges s = let hs = half_edges s in keep (is_edge hs) (pairs (vertices s))
 
 -- does a half-edge run along its edge, or against it
 abbrev pub along : Half → Bool
@@ -90,9 +90,9 @@ signed h n = cond (along h) n (neg_ℤ n)
 abbrev pub edge : Solid → Half → Edge
 edge s e = record { start = vertex s e.0; end = vertex s e.1 }
 
-abbrev pub facet-with : Solid → ℕ → ℕ → ℕ → Facet
-facet-with s p q r =
+abbrev pub facet_with : Solid → ℕ → ℕ → ℕ → Facet
+facet_with s p q r =
     record { p = vertex s p; q = vertex s q; r = vertex s r; pq = along (p, q); qr = along (q, r); rp = along (r, p) }
 
 abbrev pub facet : Solid → ℕ → Facet
-facet s f = facet-with s (corner s f 0) (corner s f 1) (corner s f 2)
+facet s f = facet_with s (corner s f 0) (corner s f 1) (corner s f 2)

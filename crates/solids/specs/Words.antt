@@ -8,24 +8,24 @@ use Rattle.points.specs.Points.{coordinates}
 use Rattle.points.specs.declared.Axis.TheVariants.{Z}
 use Rattle.crossings.specs.declared.Facet.{Facet}
 use Rattle.crossings.specs.Crossings.{S, vf, fv}
-use Rattle.solids.specs.Solids.{Solid, Half, solid, vertex, number_of, facet-half-edges}
+use Rattle.solids.specs.Solids.{Solid, Half, solid, vertex, number_of, facet_half_edges}
 use Rattle.solids.specs.declared.Counted.{Counted}
 use Rattle.solids.specs.declared.Verdict.{Verdict}
-use Rattle.solids.specs.Refusals.{on-solid, given}
+use Rattle.solids.specs.Refusals.{on_solid, given}
 use Rattle.solids.specs.Admission.{beyond}
-use Rattle.solids.specs.Containment.{in-A, in-B, count-as-A, count-as-B}
+use Rattle.solids.specs.Containment.{in_A, in_B, count_as_A, count_as_B}
 
 -- one loop serves checks 3 and 4
 abbrev pub bad : Bool → Float → Bool
 bad true x = is_nan x
 bad false x = beyond x
 
-abbrev pub bad-number : Bool → ℕ
-bad-number true = 3
-bad-number false = 4
+abbrev pub bad_number : Bool → ℕ
+bad_number true = 3
+bad_number false = 4
 
-abbrev pub check-vertex : Bool → Solid → ℕ → Verdict
-check-vertex blanks s i = given (on-solid (bad-number blanks) i) (any (bad blanks) (coordinates (vertex s i)))
+abbrev pub check_vertex : Bool → Solid → ℕ → Verdict
+check_vertex blanks s i = given (on_solid (bad_number blanks) i) (any (bad blanks) (coordinates (vertex s i)))
 
 -- The table in which half-edges are counted has 128 rows of 128: what stands at 128 * p + q is how many half-edges run from p to q.
 abbrev pub place : Half → ℕ
@@ -41,21 +41,21 @@ Low corners = (i : ℕ) → i < length corners → get_or corners i 0 < 128
 
 -- the half-edges of the facets below f
 unfoldable pub counted : List ℕ → ℕ → List Half
-counted corners f = flat_map (facet-half-edges (solid [] corners)) (up_to f)
+counted corners f = flat_map (facet_half_edges (solid [] corners)) (up_to f)
 
 -- every corner number names a vertex
 abbrev pub Named : List Float → List ℕ → Type 0
 Named points corners = (i : ℕ) → i < length corners → get_or corners i 0 < length points / 3
 
 -- one loop serves both containment counts: S of the point with a facet of B, or of a facet of A with the point
-unfoldable pub facet-S : Bool → Point → Facet → ℤ
-facet-S true v f = S Z (vf v f)
-facet-S false v f = S Z (fv f v)
+unfoldable pub facet_S : Bool → Point → Facet → ℤ
+facet_S true v f = S Z (vf v f)
+facet_S false v f = S Z (fv f v)
 
 unfoldable pub contained : Bool → Point → Solid → ℤ
-contained true v s = in-B v s
-contained false v s = in-A s v
+contained true v s = in_B v s
+contained false v s = in_A s v
 
-unfoldable pub count-as : Bool → Point → Solid → Counted
-count-as true v s = count-as-B v s
-count-as false v s = count-as-A v s
+unfoldable pub count_as : Bool → Point → Solid → Counted
+count_as true v s = count_as_B v s
+count_as false v s = count_as_A v s

@@ -64,7 +64,7 @@ impl Answer {
 
     // A refusal on no solid and no point.
     pub fn on_nobody(number: u32) -> Answer
-        ensures { result ≡ Re.answer-of number }
+        ensures { result ≡ Re.answer_of number }
     {
         Answer {
             number,
@@ -75,7 +75,7 @@ impl Answer {
 
     // A refusal on the only solid, at a vertex or a facet.
     pub fn on_solid(number: u32, place: usize) -> Answer
-        ensures { result ≡ Re.on-solid number place }
+        ensures { result ≡ Re.on_solid number place }
     {
         Answer {
             number,
@@ -86,7 +86,7 @@ impl Answer {
 
     // A refusal on the point.
     pub fn on_point(number: u32) -> Answer
-        ensures { result ≡ Re.on-point number }
+        ensures { result ≡ Re.on_point number }
     {
         Answer {
             number,

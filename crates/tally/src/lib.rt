@@ -42,7 +42,7 @@ fn count_facet(table: &mut [u16; 16384], corners: &[u32], f: usize)
 // All half-edges, counted into a table of zeros.
 pub fn tally(table: &mut [u16; 16384], corners: &[u32])
     requires { Sw.Low corners.now × (length corners.now ≤ 768) × Sw.Tallied table.old [] }
-    ensures { Sw.Tallied table.new (So.half-edges (So.solid [] corners.now)) }
+    ensures { Sw.Tallied table.new (So.half_edges (So.solid [] corners.now)) }
 {
     let mut f = 0;
     while f < corners.len() / 3 {
@@ -53,8 +53,8 @@ pub fn tally(table: &mut [u16; 16384], corners: &[u32])
 
 // Do the two directions between p and q differ in number?
 fn differ(table: &[u16; 16384], corners: &[u32], p: u32, q: u32) -> bool
-    requires { (p < 128) × (q < 128) × Sw.Tallied table.now (So.half-edges (So.solid [] corners.now)) }
-    ensures { result ≡ Ad.differ (So.half-edges (So.solid [] corners.now)) (p, q) }
+    requires { (p < 128) × (q < 128) × Sw.Tallied table.now (So.half_edges (So.solid [] corners.now)) }
+    ensures { result ≡ Ad.differ (So.half_edges (So.solid [] corners.now)) (p, q) }
 {
     let there = place(p, q);
     let back = place(q, p);
@@ -67,8 +67,8 @@ fn differ(table: &[u16; 16384], corners: &[u32], p: u32, q: u32) -> bool
 
 // Does one of the three half-edges of facet f differ from its way back in number?
 fn facet_differs(table: &[u16; 16384], corners: &[u32], f: usize) -> bool
-    requires { Sw.Low corners.now × (f < length corners.now / 3) × Sw.Tallied table.now (So.half-edges (So.solid [] corners.now)) }
-    ensures { result ≡ any (Ad.differ (So.half-edges (So.solid [] corners.now))) (So.facet-half-edges (So.solid [] corners.now) f) }
+    requires { Sw.Low corners.now × (f < length corners.now / 3) × Sw.Tallied table.now (So.half_edges (So.solid [] corners.now)) }
+    ensures { result ≡ any (Ad.differ (So.half_edges (So.solid [] corners.now))) (So.facet_half_edges (So.solid [] corners.now) f) }
 {
     let p = corners[3 * f];
     let q = corners[3 * f + 1];
@@ -84,8 +84,8 @@ fn facet_differs(table: &[u16; 16384], corners: &[u32], f: usize) -> bool
 
 // The first facet with such a half-edge, told as the place of 6.
 pub fn check_half_edges(table: &[u16; 16384], corners: &[u32]) -> Verdict
-    requires { Sw.Low corners.now × Sw.Tallied table.now (So.half-edges (So.solid [] corners.now)) }
-    ensures { result ≡ at_each (length corners.now / 3) (Ad.check-half-edges (So.solid [] corners.now)) }
+    requires { Sw.Low corners.now × Sw.Tallied table.now (So.half_edges (So.solid [] corners.now)) }
+    ensures { result ≡ at_each (length corners.now / 3) (Ad.check_half_edges (So.solid [] corners.now)) }
 {
     let mut f = 0;
     while f < corners.len() / 3 {

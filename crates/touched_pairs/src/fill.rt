@@ -10,7 +10,7 @@ use layouts::{Sizes, pack};
 // Where the crossing in column c of row r is marked.
 fn mark_at(z: Sizes, r: usize, c: usize) -> usize
     requires { La.Sized z × (r < z.ea + z.fa) × (c < La.columns z r) }
-    ensures at { result ≡ K.mark-at z r c }
+    ensures at { result ≡ K.mark_at z r c }
     ensures small { result < 256 * (z.ea + z.eb) }
 {
     if r < z.ea {
@@ -50,7 +50,7 @@ fn fill_edges(first: &[u32], crossed: &[u32], z: Sizes, marks: &mut [u64])
 // The row of facet x.
 pub fn facet_row(z: Sizes, x: usize) -> usize
     requires { La.Sized z × (x < z.fa + z.fb) }
-    ensures { result ≡ K.facet-row z x }
+    ensures { result ≡ K.facet_row z x }
 {
     z.ea + z.eb + x
 }

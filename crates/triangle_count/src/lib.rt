@@ -24,7 +24,7 @@ fn tell_line(
     t: Tally,
 ) -> Tally
     requires { K.Ready halves.now plan.sizes inc.now num.now (K.rows first.now crossed.now plan.base) × K.Edges plan.sizes (K.rows first.now crossed.now plan.base) marks.now × (h < 3 * (plan.sizes.fa + plan.sizes.fb)) × (t.pieces ≤ 1000000) × (t.at ≤ 1000000) }
-    ensures told { result ≡ Fc.tell t (K.line-ends inc.now num.now (K.rows first.now crossed.now plan.base) halves.now plan.sizes h (K.line-many plan.sizes h)) }
+    ensures told { result ≡ Fc.tell t (K.line_ends inc.now num.now (K.rows first.now crossed.now plan.base) halves.now plan.sizes h (K.line_many plan.sizes h)) }
     ensures near { Fc.Near t result 1026 }
 {
     let row = 256 * rows::line_row(halves, plan.sizes, h);
@@ -77,7 +77,7 @@ fn tell_side(
     t: Tally,
 ) -> Tally
     requires { T.Halves halves.now plan.sizes × K.Crossings plan.sizes (K.rows first.now crossed.now plan.base) × (x < plan.sizes.fa + plan.sizes.fb) × (i < T.others plan.sizes x) × (t.pieces ≤ 1000000) × (t.at ≤ 1000000) }
-    ensures told { result ≡ Fc.tell t (K.side-ends (K.rows first.now crossed.now plan.base) halves.now plan.sizes x i) }
+    ensures told { result ≡ Fc.tell t (K.side_ends (K.rows first.now crossed.now plan.base) halves.now plan.sizes x i) }
     ensures near { Fc.Near t result 12 }
 {
     if x < plan.sizes.fa {
@@ -97,7 +97,7 @@ fn tell_row(
     t: Tally,
 ) -> Tally
     requires { T.Halves halves.now plan.sizes × K.Crossings plan.sizes (K.rows first.now crossed.now plan.base) × K.Pairs (K.rows first.now crossed.now plan.base) halves.now plan.sizes marks.now × (x < plan.sizes.fa + plan.sizes.fb) × (t.pieces ≤ 900000) × (t.at ≤ 900000) }
-    ensures told { result ≡ Fc.tell t (flat_map (K.side-ends (K.rows first.now crossed.now plan.base) halves.now plan.sizes x) (up_to (T.others plan.sizes x))) }
+    ensures told { result ≡ Fc.tell t (flat_map (K.side_ends (K.rows first.now crossed.now plan.base) halves.now plan.sizes x) (up_to (T.others plan.sizes x))) }
 {
     let from = 256 * fill::facet_row(plan.sizes, x);
     let end = from + rows::others(plan.sizes, x);
@@ -122,7 +122,7 @@ fn fan_size(
     x: usize,
 ) -> usize
     requires { K.Ready halves.now plan.sizes inc.now num.now (K.rows first.now crossed.now plan.base) × K.Marked halves.now plan.sizes (K.rows first.now crossed.now plan.base) marks.now × K.Balanced halves.now plan.sizes inc.now num.now (K.rows first.now crossed.now plan.base) × (x < plan.sizes.fa + plan.sizes.fb) }
-    ensures { result ≡ length (T.fan-of (K.dense plan.sizes inc.now num.now (K.rows first.now crossed.now plan.base)) halves.now plan.sizes x) }
+    ensures { result ≡ length (T.fan_of (K.dense plan.sizes inc.now num.now (K.rows first.now crossed.now plan.base)) halves.now plan.sizes x) }
 {
     let none = Tally {
         pieces: 0,

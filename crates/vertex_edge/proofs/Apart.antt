@@ -21,39 +21,39 @@ side a b = at_least X (record { a = a; b = b })
 abbrev edge : Point → Point → Edge
 edge p q = record { start = p; end = q }
 
-pub agree-not : (b : Bool) → not b ≡ true → b ≡ false
-agree-not true e = absurd (never false e refl)
-agree-not false e = refl
+pub agree_not : (b : Bool) → not b ≡ true → b ≡ false
+agree_not true e = absurd (never false e refl)
+agree_not false e = refl
 
 -- ---- pairings of misses
 three : (k : Axis) {c d e : Crossing} → c ≡ Miss → d ≡ Miss → e ≡ Miss → paired k (c ∷ d ∷ e ∷ []) ≡ Miss
 unfolding paired crossing S sum_of
 three k p q r = rw (p, q, r)
 
-half-miss : (g : Edge → Crossing) (along : Bool) (p q : Point) → g (edge p q) ≡ Miss → g (edge q p) ≡ Miss → half g along p q ≡ Miss
-half-miss g true p q d e = d
-half-miss g false p q d e = ap against e
+half_miss : (g : Edge → Crossing) (along : Bool) (p q : Point) → g (edge p q) ≡ Miss → g (edge q p) ≡ Miss → half g along p q ≡ Miss
+half_miss g true p q d e = d
+half_miss g false p q d e = ap against e
 
 -- ---- all on one side
 module _ (t : Bool) where
-  pub miss-ve : (v : Point) (e : Edge) → side v e.start ≡ t → side v e.end ≡ t → ve v e ≡ Miss
+  pub miss_ve : (v : Point) (e : Edge) → side v e.start ≡ t → side v e.end ≡ t → ve v e ≡ Miss
   unfolding ve paired crossing S sum_of
-  miss-ve v e d f = rw (d, f) (elim t [ true ↦ refl | false ↦ refl ])
+  miss_ve v e d f = rw (d, f) (elim t [ true ↦ refl | false ↦ refl ])
 
-  pub miss-ev : (e : Edge) (v : Point) → side e.start v ≡ t → side e.end v ≡ t → ev e v ≡ Miss
+  pub miss_ev : (e : Edge) (v : Point) → side e.start v ≡ t → side e.end v ≡ t → ev e v ≡ Miss
   unfolding ev paired crossing S sum_of
-  miss-ev e v d f = rw (d, f) (elim t [ true ↦ refl | false ↦ refl ])
+  miss_ev e v d f = rw (d, f) (elim t [ true ↦ refl | false ↦ refl ])
 
-  pub miss-vf : (v : Point) (f : Facet) → side v f.p ≡ t → side v f.q ≡ t → side v f.r ≡ t → vf v f ≡ Miss
+  pub miss_vf : (v : Point) (f : Facet) → side v f.p ≡ t → side v f.q ≡ t → side v f.r ≡ t → vf v f ≡ Miss
   unfolding vf
-  miss-vf v f p q r = three Y (of f.pq f.p f.q p q) (of f.qr f.q f.r q r) (of f.rp f.r f.p r p)
+  miss_vf v f p q r = three Y (of f.pq f.p f.q p q) (of f.qr f.q f.r q r) (of f.rp f.r f.p r p)
     where
       of : (along : Bool) (a b : Point) → side v a ≡ t → side v b ≡ t → half (λ h. against (ve v h)) along a b ≡ Miss
-      of along a b d e = half-miss (λ h. against (ve v h)) along a b (ap against (miss-ve v (edge a b) d e)) (ap against (miss-ve v (edge b a) e d))
+      of along a b d e = half_miss (λ h. against (ve v h)) along a b (ap against (miss_ve v (edge a b) d e)) (ap against (miss_ve v (edge b a) e d))
 
-  pub miss-fv : (f : Facet) (v : Point) → side f.p v ≡ t → side f.q v ≡ t → side f.r v ≡ t → fv f v ≡ Miss
+  pub miss_fv : (f : Facet) (v : Point) → side f.p v ≡ t → side f.q v ≡ t → side f.r v ≡ t → fv f v ≡ Miss
   unfolding fv
-  miss-fv f v p q r = three Y (of f.pq f.p f.q p q) (of f.qr f.q f.r q r) (of f.rp f.r f.p r p)
+  miss_fv f v p q r = three Y (of f.pq f.p f.q p q) (of f.qr f.q f.r q r) (of f.rp f.r f.p r p)
     where
       of : (along : Bool) (a b : Point) → side a v ≡ t → side b v ≡ t → half (λ h. ev h v) along a b ≡ Miss
-      of along a b d e = half-miss (λ h. ev h v) along a b (miss-ev (edge a b) v d e) (miss-ev (edge b a) v e d)
+      of along a b d e = half_miss (λ h. ev h v) along a b (miss_ev (edge a b) v d e) (miss_ev (edge b a) v e d)

@@ -28,11 +28,11 @@ end t k = record { vertex = get_or t.num k 0; count = get_or t.inc k (pos 0) }
 abbrev pub on_edge : Sizes → ℕ → ℕ → ℕ
 on_edge z e g = z.va + e * z.fb + g
 
-abbrev pub on-facet : Sizes → ℕ → ℕ → ℕ
-on-facet z f e = z.va + z.ea * z.fb + f * z.eb + e
+abbrev pub on_facet : Sizes → ℕ → ℕ → ℕ
+on_facet z f e = z.va + z.ea * z.fb + f * z.eb + e
 
-abbrev pub of-B : Sizes → ℕ → ℕ
-of-B z i = z.va + z.ea * z.fb + z.fa * z.eb + i
+abbrev pub of_B : Sizes → ℕ → ℕ
+of_B z i = z.va + z.ea * z.fb + z.fa * z.eb + i
 
 abbrev pub total : Sizes → ℕ
 total z = z.va + z.ea * z.fb + z.fa * z.eb + z.vb
@@ -61,9 +61,9 @@ line_of hs z h =
       against = against hs h;
     })
     (record {
-      from = of-B z (get_or hs (3 * h + 1) 0);
-      to = of-B z (get_or hs (3 * h + 2) 0);
-      first = on-facet z 0 (edge_at hs h);
+      from = of_B z (get_or hs (3 * h + 1) 0);
+      to = of_B z (get_or hs (3 * h + 2) 0);
+      first = on_facet z 0 (edge_at hs h);
       step = z.eb;
       many = z.fa;
       against = against hs h;
@@ -83,29 +83,29 @@ turn b ps = cond b (map turned ps) ps
 abbrev pub alike : Bool → Bool → Bool
 alike a b = cond a b (not b)
 
-abbrev pub some-count : List End → Bool
-some-count es = any (λ (e : End). nonzero e.count) es
+abbrev pub some_count : List End → Bool
+some_count es = any (λ (e : End). nonzero e.count) es
 
 -- the first n crossings of an edge, behind its start and its end
-unfoldable pub line-ends : Table → Line → ℕ → List End
-line-ends t l n = off (end t l.from) ∷ end t l.to ∷ map (λ i. end t (l.first + i * l.step)) (up_to n)
+unfoldable pub line_ends : Table → Line → ℕ → List End
+line_ends t l n = off (end t l.from) ∷ end t l.to ∷ map (λ i. end t (l.first + i * l.step)) (up_to n)
 
-unfoldable pub line-pieces : Table → Line → List Half
-line-pieces t l = turn l.against (pieces (line-ends t l l.many))
+unfoldable pub line_pieces : Table → Line → List Half
+line_pieces t l = turn l.against (pieces (line_ends t l l.many))
 
 unfoldable pub half : Table → List ℕ → Sizes → ℕ → List Half
-half t hs z h = line-pieces t (line_of hs z h)
+half t hs z h = line_pieces t (line_of hs z h)
 
-abbrev pub a-end : Table → List ℕ → Sizes → ℕ → ℕ → End
-a-end t hs z g h = flip (not (against hs h)) (end t (on_edge z (edge_at hs h) g))
+abbrev pub a_end : Table → List ℕ → Sizes → ℕ → ℕ → End
+a_end t hs z g h = flip (not (against hs h)) (end t (on_edge z (edge_at hs h) g))
 
 abbrev pub b_end : Table → List ℕ → Sizes → ℕ → ℕ → End
-b_end t hs z f h = flip (against hs h) (end t (on-facet z f (edge_at hs h)))
+b_end t hs z f h = flip (against hs h) (end t (on_facet z f (edge_at hs h)))
 
 unfoldable pub pair_ends : Table → List ℕ → Sizes → ℕ → ℕ → List End
 pair_ends t hs z f g =
     let m = z.fa + g in
-    a-end t hs z g (3 * f) ∷ a-end t hs z g (3 * f + 1) ∷ a-end t hs z g (3 * f + 2)
+    a_end t hs z g (3 * f) ∷ a_end t hs z g (3 * f + 1) ∷ a_end t hs z g (3 * f + 2)
     ∷ b_end t hs z f (3 * m) ∷ b_end t hs z f (3 * m + 1) ∷ b_end t hs z f (3 * m + 2) ∷ []
 
 -- ---- facet x is A's or, from A's facet count on, B's: x is the origin
@@ -125,11 +125,11 @@ round t hs z x = half t hs z (3 * x) ++ (half t hs z (3 * x + 1) ++ half t hs z 
 unfoldable pub boundary : Table → List ℕ → Sizes → ℕ → List Half
 boundary t hs z x = cond (ltb x z.fa) (round t hs z x ++ row t hs z x) (row t hs z x ++ round t hs z x)
 
-unfoldable pub fan-of : Table → List ℕ → Sizes → ℕ → List Triangle
-fan-of t hs z x = fan x (boundary t hs z x)
+unfoldable pub fan_of : Table → List ℕ → Sizes → ℕ → List Triangle
+fan_of t hs z x = fan x (boundary t hs z x)
 
 unfoldable pub triangles : Table → List ℕ → Sizes → List Triangle
-triangles t hs z = flat_map (fan-of t hs z) (up_to (z.fa + z.fb))
+triangles t hs z = flat_map (fan_of t hs z) (up_to (z.fa + z.fb))
 
 -- ---- what the table and the list of half-edges promise
 
@@ -141,19 +141,19 @@ pub record Ok (t : Table) : Type 0 where
 pub record Halves (hs : List ℕ) (z : Sizes) : Type 0 where
   pub sized : Sized z
   pub long : length hs ≡ 9 * (z.fa + z.fb)
-  pub edge-A : (h : ℕ) → h < 3 * z.fa → edge_at hs h < z.ea
-  pub start-A : (h : ℕ) → h < 3 * z.fa → get_or hs (3 * h + 1) 0 < z.va
-  pub end-A : (h : ℕ) → h < 3 * z.fa → get_or hs (3 * h + 2) 0 < z.va
-  pub edge-B : (h : ℕ) → 3 * z.fa ≤ h → h < 3 * (z.fa + z.fb) → edge_at hs h < z.eb
-  pub start-B : (h : ℕ) → 3 * z.fa ≤ h → h < 3 * (z.fa + z.fb) → get_or hs (3 * h + 1) 0 < z.vb
-  pub end-B : (h : ℕ) → 3 * z.fa ≤ h → h < 3 * (z.fa + z.fb) → get_or hs (3 * h + 2) 0 < z.vb
+  pub edge_A : (h : ℕ) → h < 3 * z.fa → edge_at hs h < z.ea
+  pub start_A : (h : ℕ) → h < 3 * z.fa → get_or hs (3 * h + 1) 0 < z.va
+  pub end_A : (h : ℕ) → h < 3 * z.fa → get_or hs (3 * h + 2) 0 < z.va
+  pub edge_B : (h : ℕ) → 3 * z.fa ≤ h → h < 3 * (z.fa + z.fb) → edge_at hs h < z.eb
+  pub start_B : (h : ℕ) → 3 * z.fa ≤ h → h < 3 * (z.fa + z.fb) → get_or hs (3 * h + 1) 0 < z.vb
+  pub end_B : (h : ℕ) → 3 * z.fa ≤ h → h < 3 * (z.fa + z.fb) → get_or hs (3 * h + 2) 0 < z.vb
 
 -- counts of crossings are at most 2
 pub record Good (t : Table) (hs : List ℕ) (z : Sizes) : Type 0 where
   pub ok : Ok t
   pub halves : Halves hs z
   pub size : length t.inc ≡ total z
-  pub few : (k : ℕ) → z.va ≤ k → k < of-B z 0 → nat_abs (get_or t.inc k (pos 0)) ≤ 2
+  pub few : (k : ℕ) → z.va ≤ k → k < of_B z 0 → nat_abs (get_or t.inc k (pos 0)) ≤ 2
 
 -- ---- the table of two solids: the inclusion and the number of each key, in listing order. No code has it
 

@@ -1,5 +1,5 @@
 -- `apart` meets its contract.
-use Rattle.bounds.specs.Words.{apart, apart-on}
+use Rattle.bounds.specs.Words.{apart, apart_on}
 use borrow.Author.Rules.{rules}
 use Rattle.bounds.proofs.apart.Statement.{statement}
 use Rattle.bounds.proofs.apart.Tie as tie
@@ -11,12 +11,12 @@ clear-requires : tie.Need-clear-requires
 clear-requires c κs = search rules
 
 returns : tie.Need-returns
-unfolding apart apart-on
+unfolding apart apart_on
 returns c = simp (← c.before.beside.ensures, c.if1.true)
 
-returns-2 : tie.Need-returns-2
-unfolding apart apart-on
-returns-2 c = simp (← c.before.before.beside.ensures, c.before.if1.false, ← c.clear.ensures)
+returns_2 : tie.Need-returns-2
+unfolding apart apart_on
+returns_2 c = simp (← c.before.before.beside.ensures, c.before.if1.false, ← c.clear.ensures)
 
 pub apart-spec : {M : Type 1} → statement M
-apart-spec = tie.close (tie.spec beside-requires clear-requires returns returns-2)
+apart-spec = tie.close (tie.spec beside-requires clear-requires returns returns_2)

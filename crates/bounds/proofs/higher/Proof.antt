@@ -7,9 +7,9 @@ returns : tie.Need-returns
 unfolding higher
 returns c = rw c.if1.true
 
-returns-2 : tie.Need-returns-2
+returns_2 : tie.Need-returns-2
 unfolding higher
-returns-2 c = rw c.if1.false
+returns_2 c = rw c.if1.false
 
 pub higher-spec : {M : Type 1} → statement M
-higher-spec = tie.close (tie.spec returns returns-2)
+higher-spec = tie.close (tie.spec returns returns_2)

@@ -7,7 +7,7 @@ use Rattle.solids.specs.Solids.{solid, vertex}
 use mathlib.Core.List.{[]}
 use Rattle.bounds.specs.declared.Bounds.{Bounds}
 use Rattle.bounds.specs.Words.{dot, joined, span, hull}
-use Rattle.bounds.proofs.Things.{span-next}
+use Rattle.bounds.proofs.Things.{span_next}
 use borrow.Author.Rules.{rules}
 use Rattle.bounds.proofs.hull.Statement.{statement}
 use Rattle.bounds.proofs.hull.Tie as tie
@@ -48,7 +48,7 @@ loop-again c =
     let l = c.before.before.before.before.loop in
     let s = c.before.before.before.before.before.before.before in
     let box : ℕ → Bounds = λ i. dot (vertex (solid s.args.points.now []) i) in
-    (omega (arith, l.invariant.0), omega (arith, c.before.before.before.loop-test.true), c.joined.ensures ∙ ap₂ joined l.invariant.2 (c.before.dot.ensures ∙ ap dot c.before.before.vertex.ensures) ∙ sym (span-next box s.args.begin l.i l.invariant.0))
+    (omega (arith, l.invariant.0), omega (arith, c.before.before.before.loop-test.true), c.joined.ensures ∙ ap₂ joined l.invariant.2 (c.before.dot.ensures ∙ ap dot c.before.before.vertex.ensures) ∙ sym (span_next box s.args.begin l.i l.invariant.0))
 
 returns : tie.Need-returns invariant-loop decreases-loop
 returns c =

@@ -7,9 +7,9 @@ returns : tie.Need-returns
 unfolding lower
 returns c = rw c.if1.true
 
-returns-2 : tie.Need-returns-2
+returns_2 : tie.Need-returns-2
 unfolding lower
-returns-2 c = rw c.if1.false
+returns_2 c = rw c.if1.false
 
 pub lower_spec : {M : Type 1} → statement M
-lower_spec = tie.close (tie.spec returns returns-2)
+lower_spec = tie.close (tie.spec returns returns_2)

@@ -1,5 +1,5 @@
 -- `round_edge` meets its contract.
-use Rattle.bounds.specs.Words.{round-edge}
+use Rattle.bounds.specs.Words.{round_edge}
 use borrow.Author.Rules.{rules}
 use Rattle.bounds.proofs.round_edge.Statement.{statement}
 use Rattle.bounds.proofs.round_edge.Tie as tie
@@ -14,7 +14,7 @@ joined-requires : tie.Need-joined-requires
 joined-requires c κs = search rules
 
 returns : tie.Need-returns
-unfolding round-edge
+unfolding round_edge
 returns c = rw (c.joined.ensures, c.before.before.dot.ensures, c.before.dot2.ensures)
 
 pub round-edge-spec : {M : Type 1} → statement M

@@ -1,5 +1,5 @@
 -- `round_facet` meets its contract.
-use Rattle.bounds.specs.Words.{round-facet}
+use Rattle.bounds.specs.Words.{round_facet}
 use borrow.Author.Rules.{rules}
 use Rattle.bounds.proofs.round_facet.Statement.{statement}
 use Rattle.bounds.proofs.round_facet.Tie as tie
@@ -20,7 +20,7 @@ joined-requires-2 : tie.Need-joined-requires-2
 joined-requires-2 c κs = search rules
 
 returns : tie.Need-returns
-unfolding round-facet
+unfolding round_facet
 returns c = rw (c.joined2.ensures, c.before.before.joined.ensures, c.before.before.before.before.dot.ensures, c.before.before.before.dot2.ensures, c.before.dot3.ensures)
 
 pub round-facet-spec : {M : Type 1} → statement M

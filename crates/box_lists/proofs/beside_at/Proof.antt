@@ -1,5 +1,5 @@
 -- `beside_at` meets its contract.
-use Rattle.bounds.specs.Words.{beside, apart-on}
+use Rattle.bounds.specs.Words.{beside, apart_on}
 use borrow.Author.Rules.{rules}
 use Rattle.box_lists.proofs.beside_at.Statement.{statement}
 use Rattle.box_lists.proofs.beside_at.Tie as tie
@@ -56,12 +56,12 @@ clear-requires-2 : tie.Need-clear-requires-2
 clear-requires-2 c κs = search rules
 
 returns : tie.Need-returns
-unfolding beside apart-on
+unfolding beside apart_on
 returns c = simp (← c.before.clear.ensures, c.if1.true)
 
-returns-2 : tie.Need-returns-2
-unfolding beside apart-on
-returns-2 c = simp (← c.before.before.before.before.clear.ensures, c.before.before.before.if1.false, ← c.clear2.ensures)
+returns_2 : tie.Need-returns-2
+unfolding beside apart_on
+returns_2 c = simp (← c.before.before.before.before.clear.ensures, c.before.before.before.if1.false, ← c.clear2.ensures)
 
 pub beside-at-spec : {M : Type 1} → statement M
 beside-at-spec =
@@ -85,4 +85,4 @@ beside-at-spec =
     shared-slice-read-clear-4
     clear-requires-2
     returns
-    returns-2)
+    returns_2)

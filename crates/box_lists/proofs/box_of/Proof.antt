@@ -2,7 +2,7 @@
 use mathlib.Core.Path.{ap, subst, ◌∙◌}
 use Prim.Native.Nat.{◌<◌}
 use Rattle.solids.specs.Solids.{solid}
-use Rattle.bounds.specs.Words.{round-edge, round-facet, many, box_of}
+use Rattle.bounds.specs.Words.{round_edge, round_facet, many, box_of}
 use borrow.Author.Rules.{rules}
 use Rattle.box_lists.proofs.box_of.Statement.{statement}
 use Rattle.box_lists.proofs.box_of.Tie as tie
@@ -27,11 +27,11 @@ round-facet-requires c κs = search rules
 
 returns : tie.Need-returns
 unfolding box_of
-returns c = rw c.before.before.enum_told.given.1 (c.round-edge.ensures ∙ ap round-edge c.before.edge_at.ensures)
+returns c = rw c.before.before.enum_told.given.1 (c.round_edge.ensures ∙ ap round_edge c.before.edge_at.ensures)
 
-returns-2 : tie.Need-returns-2
+returns_2 : tie.Need-returns-2
 unfolding box_of
-returns-2 c = rw c.before.before.enum-told2.given.1 (c.round-facet.ensures ∙ ap round-facet c.before.facet.ensures)
+returns_2 c = rw c.before.before.enum-told2.given.1 (c.round_facet.ensures ∙ ap round_facet c.before.facet.ensures)
 
 pub box-of-spec : {M : Type 1} → statement M
 box-of-spec =
@@ -44,4 +44,4 @@ box-of-spec =
     facet-requires
     round-facet-requires
     returns
-    returns-2)
+    returns_2)

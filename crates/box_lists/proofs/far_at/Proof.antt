@@ -4,22 +4,22 @@ use mathlib.Core.Bool.{true}
 use Rattle.bounds.specs.declared.Bounds.{Bounds}
 use Rattle.bounds.specs.declared.Far.{Far}
 use Rattle.bounds.specs.declared.Far.TheVariants.{Apart, Below, Above}
-use Rattle.bounds.specs.Words.{beside, apart, apart-on, far}
+use Rattle.bounds.specs.Words.{beside, apart, apart_on, far}
 use borrow.Author.Rules.{rules}
 use Rattle.box_lists.proofs.far_at.Statement.{statement}
 use Rattle.box_lists.proofs.far_at.Tie as tie
 
-far-beside : (w : Far) (a b : Bounds) → beside a b ≡ true → far w a b ≡ true
+far_beside : (w : Far) (a b : Bounds) → beside a b ≡ true → far w a b ≡ true
 unfolding far apart
-far-beside Apart a b h = rw h
-far-beside Below a b h = rw h
-far-beside Above a b h = rw h
+far_beside Apart a b h = rw h
+far_beside Below a b h = rw h
+far_beside Above a b h = rw h
 
 beside-at-requires : tie.Need-beside-at-requires
 beside-at-requires c κs = search rules
 
 returns : tie.Need-returns
-returns c = rw (far-beside c.before.before.before.args.far _ _ (sym c.before.beside_at.ensures ∙ c.if1.true))
+returns c = rw (far_beside c.before.before.before.args.far _ _ (sym c.before.beside_at.ensures ∙ c.if1.true))
 
 enum_told : tie.Need-enum-told
 enum_told c = search rules
@@ -57,8 +57,8 @@ enum-told-2 c = search rules
 mul-result : tie.Need-overflow-mul-result
 mul-result c = search rules
 
-add-result : tie.Need-overflow-add-result
-add-result c = search rules
+add_result : tie.Need-overflow-add-result
+add_result c = search rules
 
 mul-result-2 : tie.Need-overflow-mul-result-2
 mul-result-2 c = search rules
@@ -72,8 +72,8 @@ enum-told-3 c = search rules
 mul-result-3 : tie.Need-overflow-mul-result-3
 mul-result-3 c = search rules
 
-add-result-2 : tie.Need-overflow-add-result-2
-add-result-2 c = search rules
+add_result_2 : tie.Need-overflow-add-result-2
+add_result_2 c = search rules
 
 mul-result-4 : tie.Need-overflow-mul-result-4
 mul-result-4 c = search rules
@@ -81,9 +81,9 @@ mul-result-4 c = search rules
 shared-slice-read-result-2 : tie.Need-shared-slice-read-result-2
 shared-slice-read-result-2 c = search rules
 
-returns-2 : tie.Need-returns-2
-unfolding far apart apart-on
-returns-2 c = rw c.before.before.before.enum_told.given.1 (simp (← c.before.before.before.before.before.before.beside_at.ensures, c.before.before.before.before.before.if1.false, ← c.clear.ensures))
+returns_2 : tie.Need-returns-2
+unfolding far apart apart_on
+returns_2 c = rw c.before.before.before.enum_told.given.1 (simp (← c.before.before.before.before.before.before.beside_at.ensures, c.before.before.before.before.before.if1.false, ← c.clear.ensures))
 
 returns-3 : tie.Need-returns-3
 unfolding far
@@ -111,14 +111,14 @@ far-at-spec =
     clear-requires
     enum-told-2
     mul-result
-    add-result
+    add_result
     mul-result-2
     shared-slice-read-result
     enum-told-3
     mul-result-3
-    add-result-2
+    add_result_2
     mul-result-4
     shared-slice-read-result-2
-    returns-2
+    returns_2
     returns-3
     returns-4)

@@ -9,11 +9,11 @@ use native.Mathlib.Numerals.{add-one}
 use lib.ListN.{length, length-set}
 use lib.Seq.{length-sets}
 use Rattle.list_words.specs.Lists.{up_to}
-use Rattle.list_words.proofs.Tests.{not-true, not-false}
-use Rattle.list_words.proofs.UpTo.{length-upTo}
+use Rattle.list_words.proofs.Tests.{not_true, not_false}
+use Rattle.list_words.proofs.UpTo.{length_up_to}
 use Rattle.solids.specs.Solids.{solid}
-use Rattle.bounds.specs.Words.{far, box_of, six, box-at, Narrowed}
-use Rattle.bounds.proofs.Listing.{narrowed_none, narrowed-no, narrowed-yes, boxed-next}
+use Rattle.bounds.specs.Words.{far, box_of, six, box_at, Narrowed}
+use Rattle.bounds.proofs.Listing.{narrowed_none, narrowed_no, narrowed_yes, boxed_next}
 use borrow.Author.Rules.{rules}
 use Rattle.box_lists.proofs.gather.Statement.{statement}
 use Rattle.box_lists.proofs.gather.Tie as tie
@@ -23,7 +23,7 @@ unfolding up_to
 one_more n = ap up_to (add-one n)
 
 abbrev invariant-loop : tie.invariant-loop
-invariant-loop far b thing points corners ends many columns₀ boxes₀ k₀ i₀ columns boxes k i = (i ≤ many) × (length columns ≡ length columns₀) × (length boxes ≡ length boxes₀) × Narrowed columns far b (box_of thing (solid points corners)) (up_to i) k × ((c : ℕ) → c < i → box-at boxes c ≡ box_of thing (solid points corners) c)
+invariant-loop far b thing points corners ends many columns₀ boxes₀ k₀ i₀ columns boxes k i = (i ≤ many) × (length columns ≡ length columns₀) × (length boxes ≡ length boxes₀) × Narrowed columns far b (box_of thing (solid points corners)) (up_to i) k × ((c : ℕ) → c < i → box_at boxes c ≡ box_of thing (solid points corners) c)
 
 abbrev decreases-loop : tie.decreases-loop
 decreases-loop far b thing points corners ends many columns₀ boxes₀ k₀ i₀ columns boxes k i = many - i
@@ -58,7 +58,7 @@ mul-columns c =
             c.before.before.before.before.before.before.before.before.loop-test.true,
             c.before.before.before.before.before.before.before.before.before.before.before.before.before.before.before.requires.0.2,
             c.before.before.before.before.before.before.before.before.before.loop.invariant.3.fits,
-            length-upTo c.before.before.before.before.before.before.before.before.before.loop.i,
+            length_up_to c.before.before.before.before.before.before.before.before.before.loop.i,
           );
     }
 
@@ -70,7 +70,7 @@ slice-write-columns c =
       c.before.before.before.before.before.before.before.before.before.before.before.before.before.before.before.requires.1.0,
       c.before.before.before.before.before.before.before.before.before.loop.invariant.1,
       c.before.before.before.before.before.before.before.before.before.loop.invariant.3.fits,
-      length-upTo c.before.before.before.before.before.before.before.before.before.loop.i,
+      length_up_to c.before.before.before.before.before.before.before.before.before.loop.i,
     )
 
 add-k : tie.Need-overflow-add-k invariant-loop decreases-loop
@@ -82,7 +82,7 @@ add-k c =
             c.before.before.before.before.before.before.before.before.loop-test.true,
             c.before.before.before.before.before.before.before.before.before.before.before.before.before.before.before.requires.0.2,
             c.before.before.before.before.before.before.before.before.before.loop.invariant.3.fits,
-            length-upTo c.before.before.before.before.before.before.before.before.before.loop.i,
+            length_up_to c.before.before.before.before.before.before.before.before.before.loop.i,
           );
     }
 
@@ -101,7 +101,7 @@ loop-again c =
     let own = c.before.before.before.before.before.before.before.box_of in
     let p = c.before.before.before.before.before.put.ensures in
     let long = ap length p ∙ length-sets l.boxes (6 * l.i) (six own.result) ∙ l.invariant.2 in
-    let all = boxed-next l.boxes own.result l.i (omega (arith, t, l.invariant.2, s.requires.1.1)) box _ p own.ensures l.invariant.4 in
+    let all = boxed_next l.boxes own.result l.i (omega (arith, t, l.invariant.2, s.requires.1.1)) box _ p own.ensures l.invariant.4 in
     let test = c.before.far_at.ensures ∙ ap (far s.args.far s.args.b) (all l.i (omega arith)) in
     let next : up_to (l.i + 1) ≡ up_to l.i ++ (l.i ∷ []) = one_more l.i in
     ⊎_elim
@@ -109,17 +109,17 @@ loop-again c =
       omega (arith, t),
       length-set l.columns l.k l.i ∙ l.invariant.1,
       long,
-      narrowed-yes _ _ _ l.i l.invariant.3 (sym test ∙ not-true c.before.far_at.result w.0.taken) (omega (arith, t, s.requires.1.0, l.invariant.1, l.invariant.3.fits, length-upTo l.i)),
+      narrowed_yes _ _ _ l.i l.invariant.3 (sym test ∙ not_true c.before.far_at.result w.0.taken) (omega (arith, t, s.requires.1.0, l.invariant.1, l.invariant.3.fits, length_up_to l.i)),
       all,
     ))
-    (λ w. rw (w.1, w.2, next) (omega (arith, t), l.invariant.1, long, narrowed-no _ _ _ l.i l.invariant.3 (sym test ∙ not-false c.before.far_at.result w.0.left), all))
+    (λ w. rw (w.1, w.2, next) (omega (arith, t), l.invariant.1, long, narrowed_no _ _ _ l.i l.invariant.3 (sym test ∙ not_false c.before.far_at.result w.0.left), all))
     c.if1.branch
 
 same_length : tie.Need-same-length invariant-loop decreases-loop
 same_length c = c.before.loop.invariant.1
 
-same-length-2 : tie.Need-same-length-2 invariant-loop decreases-loop
-same-length-2 c = c.before.loop.invariant.2
+same_length_2 : tie.Need-same-length-2 invariant-loop decreases-loop
+same_length_2 c = c.before.loop.invariant.2
 
 returns : tie.Need-returns invariant-loop decreases-loop
 returns c =
@@ -151,5 +151,5 @@ gather-spec =
     loop-less
     loop-again
     same_length
-    same-length-2
+    same_length_2
     returns)

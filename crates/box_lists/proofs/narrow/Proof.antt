@@ -7,15 +7,15 @@ use native.Mathlib.Nat.{le_antisymm}
 use native.Mathlib.Numerals.{add-one}
 use lib.ListN.{length, get_or, take, length-set}
 use lib.Seq.{take-suc, take-length, length-take-le}
-use Rattle.list_words.proofs.Tests.{not-true, not-false}
-use Rattle.bounds.specs.Words.{box-at, Narrowed}
-use Rattle.bounds.proofs.Listing.{narrowed_none, narrowed-no, narrowed-yes}
+use Rattle.list_words.proofs.Tests.{not_true, not_false}
+use Rattle.bounds.specs.Words.{box_at, Narrowed}
+use Rattle.bounds.proofs.Listing.{narrowed_none, narrowed_no, narrowed_yes}
 use borrow.Author.Rules.{rules}
 use Rattle.box_lists.proofs.narrow.Statement.{statement}
 use Rattle.box_lists.proofs.narrow.Tie as tie
 
 abbrev invariant-loop : tie.invariant-loop
-invariant-loop far b boxes columns few₀ k₀ at₀ few k at = (at ≤ length columns) × (length few ≡ length few₀) × Narrowed few far b (box-at boxes) (take at columns) k
+invariant-loop far b boxes columns few₀ k₀ at₀ few k at = (at ≤ length columns) × (length few ≡ length few₀) × Narrowed few far b (box_at boxes) (take at columns) k
 
 abbrev decreases-loop : tie.decreases-loop
 decreases-loop far b boxes columns few₀ k₀ at₀ few k at = length columns - at
@@ -93,9 +93,9 @@ loop-again c =
     (λ w. rw (w.1, w.2, next) (
       omega (arith, t),
       length-set l.few l.k (get_or columns l.at 0) ∙ l.invariant.1,
-      narrowed-yes _ _ _ (get_or columns l.at 0) l.invariant.2 (sym c.before.far_at.ensures ∙ not-true c.before.far_at.result w.0.taken) (omega (arith, t, s.requires.0.0, l.invariant.1, l.invariant.2.fits, within)),
+      narrowed_yes _ _ _ (get_or columns l.at 0) l.invariant.2 (sym c.before.far_at.ensures ∙ not_true c.before.far_at.result w.0.taken) (omega (arith, t, s.requires.0.0, l.invariant.1, l.invariant.2.fits, within)),
     ))
-    (λ w. rw (w.1, w.2, next) (omega (arith, t), l.invariant.1, narrowed-no _ _ _ (get_or columns l.at 0) l.invariant.2 (sym c.before.far_at.ensures ∙ not-false c.before.far_at.result w.0.left)))
+    (λ w. rw (w.1, w.2, next) (omega (arith, t), l.invariant.1, narrowed_no _ _ _ (get_or columns l.at 0) l.invariant.2 (sym c.before.far_at.ensures ∙ not_false c.before.far_at.result w.0.left)))
     c.if1.branch
 
 same_length : tie.Need-same-length invariant-loop decreases-loop
@@ -107,7 +107,7 @@ returns c =
     let s = c.before.before.before.before.before in
     let columns = s.args.columns.now in
     let q = ap (λ n. take n columns) (le_antisymm l.invariant.0 c.loop-test.false) ∙ take-length columns in
-    (subst (λ x. Narrowed l.few s.args.far s.args.b (box-at s.args.boxes.now) x l.k) q l.invariant.2, l.invariant.1)
+    (subst (λ x. Narrowed l.few s.args.far s.args.b (box_at s.args.boxes.now) x l.k) q l.invariant.2, l.invariant.1)
 
 pub narrow-spec : {M : Type 1} → statement M
 narrow-spec =

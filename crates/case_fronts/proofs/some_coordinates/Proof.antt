@@ -12,8 +12,8 @@ slice-aggregate-result c = sym (length-take-le _ _ (omega arith))
 returns : tie.Need-returns
 returns c = search rules
 
-returns-2 : tie.Need-returns-2
-returns-2 c = search rules
+returns_2 : tie.Need-returns-2
+returns_2 c = search rules
 
 pub some-coordinates-spec : {M : Type 1} → statement M
-some-coordinates-spec = tie.close (tie.spec slice-aggregate-result returns returns-2)
+some-coordinates-spec = tie.close (tie.spec slice-aggregate-result returns returns_2)

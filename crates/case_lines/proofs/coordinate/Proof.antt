@@ -1,5 +1,5 @@
 -- `coordinate` meets its contract: what equals itself has a bit pattern.
-use Rattle.case_lines.proofs.Blank.{no-blank}
+use Rattle.case_lines.proofs.Blank.{no_blank}
 use borrow.Author.Rules.{rules}
 use Rattle.case_lines.proofs.coordinate.Statement.{statement}
 use Rattle.case_lines.proofs.coordinate.Tie as tie
@@ -17,7 +17,7 @@ byte-requires : tie.Need-byte-requires
 byte-requires c κs = search rules
 
 float-to-bits-hex : tie.Need-float-to-bits-hex
-float-to-bits-hex c = let s = c.before.before in no-blank s.before.args.x s.if1.false
+float-to-bits-hex c = let s = c.before.before in no_blank s.before.args.x s.if1.false
 
 hex-requires : tie.Need-hex-requires
 hex-requires c κs = search rules
@@ -31,8 +31,8 @@ slice-aggregate-text-2 c = search rules
 text-requires-2 : tie.Need-text-requires-2
 text-requires-2 c κs = search rules
 
-returns-2 : tie.Need-returns-2
-returns-2 c = search rules
+returns_2 : tie.Need-returns-2
+returns_2 c = search rules
 
 pub coordinate-spec : {M : Type 1} → statement M
 coordinate-spec =
@@ -47,4 +47,4 @@ coordinate-spec =
     array-share-prefix-all
     slice-aggregate-text-2
     text-requires-2
-    returns-2)
+    returns_2)

@@ -39,9 +39,9 @@ cast-result-3 c = let s = c.before in let h = to_z-of_z w32 s.args.n s.ranges.n 
 returns : tie.Need-returns
 returns c = search rules
 
-returns-2 : tie.Need-returns-2
-returns-2 c = search rules
+returns_2 : tie.Need-returns-2
+returns_2 c = search rules
 
 pub magnitude-spec : {M : Type 1} → statement M
 magnitude-spec =
-    tie.close (tie.spec cast-result cast-result-2 sub-result cast-result-3 returns returns-2)
+    tie.close (tie.spec cast-result cast-result-2 sub-result cast-result-3 returns returns_2)

@@ -4,7 +4,7 @@ use Prim.Native.Nat.{◌-◌}
 use native.Mathlib.Omega.{arith}
 use Rattle.vertex_table.specs.Words.{flip}
 use Rattle.kept_lists.specs.Words.{rows, look, crossing, in_row}
-use Rattle.kept_lists.proofs.Rows.{left, look-here, look-on, look-end, flip-blank}
+use Rattle.kept_lists.proofs.Rows.{left, look_here, look_on, look_end, flip_blank}
 use borrow.Author.Rules.{rules}
 use Rattle.composite_ends.proofs.crossing.Statement.{statement}
 use Rattle.composite_ends.proofs.crossing.Tie as tie
@@ -56,7 +56,7 @@ returns : tie.Need-returns invariant-loop decreases-loop
 returns c = let t = c.before in
     let l = t.before.before.before.before in
     let a = l.before.before.before.before.before.args in
-    c.at_place.ensures ∙ ap (flip a.flip) (sym (l.loop.invariant ∙ look-here (rows a.first.now a.crossed.now a.base) a.c l.loop.k _ t.before.before.before.loop-test.true (sym t.before.column.ensures ∙ t.if1.true)))
+    c.at_place.ensures ∙ ap (flip a.flip) (sym (l.loop.invariant ∙ look_here (rows a.first.now a.crossed.now a.base) a.c l.loop.k _ t.before.before.before.loop-test.true (sym t.before.column.ensures ∙ t.if1.true)))
 
 add-k : tie.Need-overflow-add-k invariant-loop decreases-loop
 add-k c = let s = c.before.before.before.before.before.before.before.before.before in record { fits = omega (arith, c.before.before.before.loop-test.true, s.requires.1, s.requires.2) }
@@ -67,12 +67,12 @@ loop-less c = omega (arith, c.before.before.before.loop-test.true)
 loop-again : tie.Need-loop-preserved invariant-loop decreases-loop
 loop-again c = let l = c.before.before.before.before in
     let a = l.before.before.before.before.before.args in
-    l.loop.invariant ∙ look-on (rows a.first.now a.crossed.now a.base) a.c l.loop.k _ c.before.before.before.loop-test.true (λ e. c.if1.false (c.before.column.ensures ∙ e))
+    l.loop.invariant ∙ look_on (rows a.first.now a.crossed.now a.base) a.c l.loop.k _ c.before.before.before.loop-test.true (λ e. c.if1.false (c.before.column.ensures ∙ e))
 
-returns-2 : tie.Need-returns-2 invariant-loop decreases-loop
-returns-2 c = let l = c.before in
+returns_2 : tie.Need-returns-2 invariant-loop decreases-loop
+returns_2 c = let l = c.before in
     let a = l.before.before.before.before.before.args in
-    sym (ap (flip a.flip) (l.loop.invariant ∙ look-end (rows a.first.now a.crossed.now a.base) a.c l.loop.k _ c.loop-test.false) ∙ flip-blank a.flip)
+    sym (ap (flip a.flip) (l.loop.invariant ∙ look_end (rows a.first.now a.crossed.now a.base) a.c l.loop.k _ c.loop-test.false) ∙ flip_blank a.flip)
 
 pub crossing-spec : {M : Type 1} → statement M
 crossing-spec =
@@ -96,4 +96,4 @@ crossing-spec =
     add-k
     loop-less
     loop-again
-    returns-2)
+    returns_2)

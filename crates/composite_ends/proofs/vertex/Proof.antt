@@ -3,7 +3,7 @@ use lib.IntN.{pos}
 use lib.ListN.{get_or}
 use native.Mathlib.Omega.{arith}
 use Rattle.crossings.proofs.Fits.{fits}
-use Rattle.list_words.proofs.Widths.{back-16, back-32}
+use Rattle.list_words.proofs.Widths.{back_16, back_32}
 use borrow.Author.Rules.{rules}
 use Rattle.composite_ends.proofs.vertex.Statement.{statement}
 use Rattle.composite_ends.proofs.vertex.Tie as tie
@@ -21,13 +21,13 @@ shared-slice-copy-out-end-of : tie.Need-shared-slice-copy-out-end-of
 shared-slice-copy-out-end-of c = search rules
 
 cast-end-of : tie.Need-overflow-cast-end-of
-cast-end-of c = let s = c.before.before.before in let n = get_or s.args.inc.now s.args.i (pos 0) in rw (back-16 n s.requires.2) (fits n (omega (arith, s.requires.2)))
+cast-end-of c = let s = c.before.before.before in let n = get_or s.args.inc.now s.args.i (pos 0) in rw (back_16 n s.requires.2) (fits n (omega (arith, s.requires.2)))
 
 end-of-requires : tie.Need-end-of-requires
-end-of-requires c κs = let s = c.before.before.before in let n = get_or s.args.inc.now s.args.i (pos 0) in rw (back-16 n s.requires.2, back-32 n s.requires.2) s.requires.2
+end-of-requires c κs = let s = c.before.before.before in let n = get_or s.args.inc.now s.args.i (pos 0) in rw (back_16 n s.requires.2, back_32 n s.requires.2) s.requires.2
 
 returns : tie.Need-returns
-returns c = let s = c.before.before.before.before in let n = get_or s.args.inc.now s.args.i (pos 0) in rw (back-16 n s.requires.2, back-32 n s.requires.2) at c.end_of_lem.ensures
+returns c = let s = c.before.before.before.before in let n = get_or s.args.inc.now s.args.i (pos 0) in rw (back_16 n s.requires.2, back_32 n s.requires.2) at c.end_of_lem.ensures
 
 pub vertex-spec : {M : Type 1} → statement M
 vertex-spec =

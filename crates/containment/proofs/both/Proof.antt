@@ -28,13 +28,13 @@ admit-requires c κs = search rules
 
 returns : tie.Need-returns
 unfolding in_order
-returns c = rw (sym c.before.before.before.admit-point.ensures ∙ c.before.n.given.1)
+returns c = rw (sym c.before.before.before.admit_point.ensures ∙ c.before.n.given.1)
 
-returns-2 : tie.Need-returns-2
+returns_2 : tie.Need-returns-2
 unfolding in_order
-returns-2 c = rw (sym c.before.before.before.admit-point.ensures ∙ c.before.enum_told.given.1, c.admit.ensures) (last _)
+returns_2 c = rw (sym c.before.before.before.admit_point.ensures ∙ c.before.enum_told.given.1, c.admit.ensures) (last _)
 
 pub both-spec : {M : Type 1} → statement M
 both-spec =
     tie.close
-    (tie.spec admit-point-requires enum-known-n enum_told admit-requires returns returns-2)
+    (tie.spec admit-point-requires enum-known-n enum_told admit-requires returns returns_2)

@@ -5,11 +5,11 @@ use native.Mathlib.Omega.{arith}
 use mir.Syntax.{w32}
 use mir.Val.{to_z, of_z}
 use Rattle.solids.specs.Solids.{Solid, solid}
-use Rattle.solids.specs.Admission.{admission, point-admission}
+use Rattle.solids.specs.Admission.{admission, point_admission}
 use Rattle.solids.proofs.Admitted.{passed}
 use Rattle.solids.proofs.Closure.{named}
-use Rattle.solids.proofs.Checks.{all-accepted}
-use Rattle.solids.proofs.Orders.{count-as-is}
+use Rattle.solids.proofs.Checks.{all_accepted}
+use Rattle.solids.proofs.Orders.{count_as_is}
 use borrow.Author.Rules.{rules}
 use Rattle.containment.proofs.count_as.Statement.{statement}
 use Rattle.containment.proofs.count_as.Tie as tie
@@ -29,22 +29,22 @@ enum_told c = search rules
 contained-requires : tie.Need-contained-requires
 contained-requires c κs =
     let s = c.before.before.before.before.before in
-    let all = all-accepted (point-admission s.args.v ∷ admission (of s) ∷ []) (sym c.before.before.both.ensures ∙ c.enum_told.given.1) in
+    let all = all_accepted (point_admission s.args.v ∷ admission (of s) ∷ []) (sym c.before.before.both.ensures ∙ c.enum_told.given.1) in
     let p = passed (of s) all.1.0 in
-    (named (of s) p.corners-whole p.proper, omega (arith, p.few-facets, p.corners-whole))
+    (named (of s) p.corners_whole p.proper, omega (arith, p.few_facets, p.corners_whole))
 
 returns : tie.Need-returns
 returns c =
     let s = c.before.before.before.before.before.before in
-    rw (count-as-is s.args.as-b s.args.v (of s), sym c.before.before.before.both.ensures ∙ c.before.answer.given.1)
+    rw (count_as_is s.args.as_b s.args.v (of s), sym c.before.before.before.both.ensures ∙ c.before.answer.given.1)
 
-returns-2 : tie.Need-returns-2
-returns-2 c =
+returns_2 : tie.Need-returns-2
+returns_2 c =
     let s = c.before.before.before.before.before.before in
     let h : to_z w32 (of_z w32 c.contained.result) ≡ c.contained.result = search rules in
-    rw (h, c.contained.ensures.0, count-as-is s.args.as-b s.args.v (of s), sym c.before.before.before.both.ensures ∙ c.before.enum_told.given.1)
+    rw (h, c.contained.ensures.0, count_as_is s.args.as_b s.args.v (of s), sym c.before.before.before.both.ensures ∙ c.before.enum_told.given.1)
 
 pub count-as-spec : {M : Type 1} → statement M
 count-as-spec =
     tie.close
-    (tie.spec both-requires enum-known-answer enum_told contained-requires returns returns-2)
+    (tie.spec both-requires enum-known-answer enum_told contained-requires returns returns_2)

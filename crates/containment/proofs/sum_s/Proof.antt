@@ -13,24 +13,24 @@ use mir.Syntax.{w32}
 use mir.Val.{to_z, of_z}
 use mir.Facts.{to_z-of_z}
 use Rattle.list_words.specs.Lists.{sum_of, up_to}
-use Rattle.list_words.proofs.Integers.{bnd-add}
-use Rattle.list_words.proofs.UpTo.{sum-upTo-suc}
+use Rattle.list_words.proofs.Integers.{bnd_add}
+use Rattle.list_words.proofs.UpTo.{sum_up_to_suc}
 use Rattle.points.specs.declared.Point.{Point}
 use Rattle.crossings.proofs.Fits.{fits_sum}
 use Rattle.solids.specs.Solids.{solid, facet}
-use Rattle.solids.specs.Words.{facet-S}
+use Rattle.solids.specs.Words.{facet_S}
 use borrow.Author.Rules.{rules}
 use Rattle.containment.proofs.sum_s.Statement.{statement}
 use Rattle.containment.proofs.sum_s.Tie as tie
 
 abbrev part : Bool → Point → List Float → List ℕ → ℕ → ℤ
-part as-b v points corners f = facet-S as-b v (facet (solid points corners) f)
+part as_b v points corners f = facet_S as_b v (facet (solid points corners) f)
 
 abbrev invariant-loop : tie.invariant-loop
-invariant-loop as-b v points corners sum₀ f₀ sum f = (f ≤ length corners / 3) × (to_z w32 sum ≡ sum_of (part as-b v points corners) (up_to f)) × (nat_abs (to_z w32 sum) ≤ f)
+invariant-loop as_b v points corners sum₀ f₀ sum f = (f ≤ length corners / 3) × (to_z w32 sum ≡ sum_of (part as_b v points corners) (up_to f)) × (nat_abs (to_z w32 sum) ≤ f)
 
 abbrev decreases-loop : tie.decreases-loop
-decreases-loop as-b v points corners sum₀ f₀ sum f = length corners / 3 - f
+decreases-loop as_b v points corners sum₀ f₀ sum f = length corners / 3 - f
 
 loop-holds : tie.Need-loop-init invariant-loop decreases-loop
 unfolding sum_of up_to
@@ -58,10 +58,10 @@ loop-again c =
     let r = c.facet-s.result in
     let h : to_z w32 (of_z w32 r) ≡ r = search rules in
     let z = to_z-of_z (add-sum c) in
-    let e : r ≡ part a.as-b a.v a.points.now a.corners.now l.loop.f = c.facet-s.ensures.0 ∙ ap (facet-S a.as-b a.v) c.before.facet.ensures in (
+    let e : r ≡ part a.as_b a.v a.points.now a.corners.now l.loop.f = c.facet-s.ensures.0 ∙ ap (facet_S a.as_b a.v) c.before.facet.ensures in (
       omega arith,
-      z ∙ rw (h, add-one) (ap₂ ◌+ℤ◌ l.loop.invariant.1 e ∙ sym (sum-upTo-suc (part a.as-b a.v a.points.now a.corners.now) l.loop.f)),
-      rw (z, h) (bnd-add l.loop.f 1 (to_z w32 l.loop.sum) r l.loop.invariant.2 c.facet-s.ensures.1),
+      z ∙ rw (h, add-one) (ap₂ ◌+ℤ◌ l.loop.invariant.1 e ∙ sym (sum_up_to_suc (part a.as_b a.v a.points.now a.corners.now) l.loop.f)),
+      rw (z, h) (bnd_add l.loop.f 1 (to_z w32 l.loop.sum) r l.loop.invariant.2 c.facet-s.ensures.1),
     )
 
 returns : tie.Need-returns invariant-loop decreases-loop
@@ -69,7 +69,7 @@ returns c =
     let l = c.before in
     let a = l.before.before.before.args in
     let q = le_antisymm l.loop.invariant.0 c.loop-test.false in
-    (l.loop.invariant.1 ∙ ap (λ n. sum_of (part a.as-b a.v a.points.now a.corners.now) (up_to n)) q, omega (arith, l.before.before.before.requires.1))
+    (l.loop.invariant.1 ∙ ap (λ n. sum_of (part a.as_b a.v a.points.now a.corners.now) (up_to n)) q, omega (arith, l.before.before.before.requires.1))
 
 pub sum-s-spec : {M : Type 1} → statement M
 sum-s-spec =

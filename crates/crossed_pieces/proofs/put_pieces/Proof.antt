@@ -10,8 +10,8 @@ use Rattle.placed_ends.specs.declared.Counts.{Counts}
 use Rattle.joined_ends.specs.Words.{flat, Behind}
 use Rattle.joined_ends.proofs.Joined.{laid_none}
 use Rattle.kept_lists.specs.Words.{Rows, rows, half}
-use Rattle.kept_lists.proofs.Gathered.{gathered_none, gathered-first, gathered-after, line-room, corner-in, row-few}
-use Rattle.crossed_pieces.proofs.Eights.{Going, going-joined, going-all}
+use Rattle.kept_lists.proofs.Gathered.{gathered_none, gathered_first, gathered_after, line_room, corner_in, row_few}
+use Rattle.crossed_pieces.proofs.Eights.{Going, going_joined, going_all}
 use borrow.Author.Rules.{rules}
 use Rattle.crossed_pieces.proofs.put_pieces.Statement.{statement}
 use Rattle.crossed_pieces.proofs.put_pieces.Tie as tie
@@ -43,12 +43,12 @@ abbrev W : Start → Rows
 W s = rows s.args.first.now s.args.crossed.now s.args.plan.base
 
 -- there are marks for the whole row, and few
-room : (m : Many) → (256 * m.before.line_row.result + 256 ≤ 64 * length (start m).args.marks.now) × (m.line-many.result ≤ 256) × (m.before.line_row.result ≤ 768)
+room : (m : Many) → (256 * m.before.line_row.result + 256 ≤ 64 * length (start m).args.marks.now) × (m.line_many.result ≤ 256) × (m.before.line_row.result ≤ 768)
 room m =
     let s = start m in
     let a = s.args in
-    line-room a.inc.now a.num.now (W s) a.halves.now a.plan.sizes a.h s.pre.0.0.halves s.pre.0.1 s.pre.0.2 _ _
-    m.before.line_row.ensures m.line-many.ensures
+    line_room a.inc.now a.num.now (W s) a.halves.now a.plan.sizes a.h s.pre.0.0.halves s.pre.0.1 s.pre.0.2 _ _
+    m.before.line_row.ensures m.line_many.ensures
 
 -- the place is within the list
 within : (l : Loop) → let a = (start (many l)).args in (a.to ≤ length a.list.now) × (length l.loop.list ≡ length a.list.now)
@@ -75,7 +75,7 @@ filled c =
     ⊎_elim
     (λ v. rw (v.5, v.6, v.7) (
       omega arith,
-      going-joined a.inc.now a.num.now (W s) a.halves.now a.plan.sizes a.h (rw v.0.taken at g) v.2.last.1.1.0 v.2.result (within l).0
+      going_joined a.inc.now a.num.now (W s) a.halves.now a.plan.sizes a.h (rw v.0.taken at g) v.2.last.1.1.0 v.2.result (within l).0
           v.2.kept.1.1.0 v.2.ensures,
     ))
     (λ v. rw (v.1, v.2, v.3) (omega (arith, v.0.left, g.room), g))
@@ -89,7 +89,7 @@ last c =
     let s = start (many l) in
     let a = s.args in
     let j = c.before.before.join-first2 in
-    going-joined a.inc.now a.num.now (W s) a.halves.now a.plan.sizes a.h l.loop.invariant.2 j.new.1.1.0 j.result (within l).0
+    going_joined a.inc.now a.num.now (W s) a.halves.now a.plan.sizes a.h l.loop.invariant.2 j.new.1.1.0 j.result (within l).0
     j.auto.1.1.0 j.ensures
 
 whole : (c : tie.After-slice-known3 invariant-loop decreases-loop) → let l = c.before.before.before.before.before in let s = start (many l) in let a = s.args in let j = c.before.before.join-first2 in
@@ -100,14 +100,14 @@ whole c =
     let m = many l in
     let s = start m in
     let a = s.args in
-    let e : l.loop.i - 256 * m.before.line_row.result ≡ m.line-many.result = omega (arith, l.loop.invariant.0, l.loop.invariant.1, c.before.before.before.before.loop-test.false) in
-    going-all a.inc.now a.num.now (W s) a.halves.now a.plan.sizes a.h (last c) (e ∙ m.line-many.ensures) s.pre.1
+    let e : l.loop.i - 256 * m.before.line_row.result ≡ m.line_many.result = omega (arith, l.loop.invariant.0, l.loop.invariant.1, c.before.before.before.before.loop-test.false) in
+    going_all a.inc.now a.num.now (W s) a.halves.now a.plan.sizes a.h (last c) (e ∙ m.line_many.ensures) s.pre.1
 
 line-row-requires : tie.Need-line-row-requires invariant-loop decreases-loop
 line-row-requires c κs = let s = c.before.before.before.before.before.before in (s.requires.0.0.halves, s.requires.0.2)
 
 mul-row : tie.Need-overflow-mul-row invariant-loop decreases-loop
-mul-row c = let s = c.before.before.before.before.before.before.before in record { fits = omega (arith, row-few s.requires.0.0.halves s.args.h s.requires.0.2, c.line_row.ensures) }
+mul-row c = let s = c.before.before.before.before.before.before.before in record { fits = omega (arith, row_few s.requires.0.0.halves s.args.h s.requires.0.2, c.line_row.ensures) }
 
 line-many-requires : tie.Need-line-many-requires invariant-loop decreases-loop
 line-many-requires c κs = c.before.before.before.before.before.before.before.requires.0.0.halves.sized
@@ -119,13 +119,13 @@ against-requires : tie.Need-against-requires invariant-loop decreases-loop
 against-requires c κs = let s = start c in omega (arith, s.pre.0.0.halves.long, s.pre.0.2)
 
 corner-requires : tie.Need-corner-requires invariant-loop decreases-loop
-corner-requires c κs = let s = start c.before in let g = s.pre.0.0 in (g.vertices, g.halves, omega (arith, g.halves.long, s.pre.0.2), (corner-in g.halves s.args.h s.pre.0.2).0)
+corner-requires c κs = let s = start c.before in let g = s.pre.0.0 in (g.vertices, g.halves, omega (arith, g.halves.long, s.pre.0.2), (corner_in g.halves s.args.h s.pre.0.2).0)
 
 array-set-from-all : tie.Need-array-set-from-all invariant-loop decreases-loop
 array-set-from-all c = search rules
 
 corner-requires-2 : tie.Need-corner-requires-2 invariant-loop decreases-loop
-corner-requires-2 c κs = let s = start c.before.before in let g = s.pre.0.0 in (g.vertices, g.halves, omega (arith, g.halves.long, s.pre.0.2), (corner-in g.halves s.args.h s.pre.0.2).1)
+corner-requires-2 c κs = let s = start c.before.before in let g = s.pre.0.0 in (g.vertices, g.halves, omega (arith, g.halves.long, s.pre.0.2), (corner_in g.halves s.args.h s.pre.0.2).1)
 
 array-set-from-all-2 : tie.Need-array-set-from-all-2 invariant-loop decreases-loop
 array-set-from-all-2 c = search rules
@@ -148,8 +148,8 @@ loop-holds c =
         done = [];
         laid = laid_none a.list.now a.to;
         gathered =
-            gathered-first a.inc.now a.num.now (W s) a.halves.now a.plan.sizes a.h s.pre.0.0.halves s.pre.0.1 s.pre.0.2 _ _
-            m.before.line_row.ensures m.line-many.ensures g c.first.ensures;
+            gathered_first a.inc.now a.num.now (W s) a.halves.now a.plan.sizes a.h s.pre.0.0.halves s.pre.0.1 s.pre.0.2 _ _
+            m.before.line_row.ensures m.line_many.ensures g c.first.ensures;
         room = omega arith;
       },
     )
@@ -176,7 +176,7 @@ line-end-requires : tie.Need-line-end-requires invariant-loop decreases-loop
 line-end-requires c κs =
     let l = c.before.before in
     let s = start (many l) in
-    (s.pre.0.0.halves, s.pre.0.0.crossings, s.pre.0.2, rw (← (many l).line-many.ensures) (omega (arith, c.before.loop-test.true, l.loop.invariant.0)))
+    (s.pre.0.0.halves, s.pre.0.0.crossings, s.pre.0.2, rw (← (many l).line_many.ensures) (omega (arith, c.before.loop-test.true, l.loop.invariant.0)))
 
 mul-all : tie.Need-overflow-mul-all invariant-loop decreases-loop
 mul-all c = record { fits = omega (arith, (filled c.before.before).0) }
@@ -202,7 +202,7 @@ loop-again c =
     let m = many l in
     let s = start m in
     let a = s.args in
-    let e = c.before.before.line-end in
+    let e = c.before.before.line_end in
     let f = filled c.before.before.before in (
       omega (arith, c.next.ensures.low, l.loop.invariant.0),
       c.next.ensures.high,
@@ -210,8 +210,8 @@ loop-again c =
         done = f.1.done;
         laid = f.1.laid;
         gathered =
-            gathered-after a.inc.now a.num.now (W s) a.halves.now a.plan.sizes a.h s.pre.0.0.halves s.pre.0.1 s.pre.0.2 _ _
-            m.before.line_row.ensures m.line-many.ensures f.1.gathered e.result (rw l.before.before.before.before.against.ensures at e.ensures) f.0
+            gathered_after a.inc.now a.num.now (W s) a.halves.now a.plan.sizes a.h s.pre.0.0.halves s.pre.0.1 s.pre.0.2 _ _
+            m.before.line_row.ensures m.line_many.ensures f.1.gathered e.result (rw l.before.before.before.before.against.ensures at e.ensures) f.0
             l.loop.invariant.0 c.next.ensures;
         room = omega (arith, f.0);
       },

@@ -13,8 +13,8 @@ returns c =
     let h : to_z w32 (of_z w32 n) ≡ n = search rules in
     rw (h, c.before.if1.true) (refl, c.before.before.before.requires)
 
-returns-2 : tie.Need-returns-2
-returns-2 c = rw c.if1.false (refl, omega arith)
+returns_2 : tie.Need-returns-2
+returns_2 c = rw c.if1.false (refl, omega arith)
 
 pub counted_spec : {M : Type 1} → statement M
-counted_spec = tie.close (tie.spec returns returns-2)
+counted_spec = tie.close (tie.spec returns returns_2)

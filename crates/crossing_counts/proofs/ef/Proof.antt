@@ -5,9 +5,9 @@ use lib.IntN.{nat_abs}
 use mir.Syntax.{w32}
 use mir.Val.{to_z, of_z}
 use Rattle.crossings.specs.Crossings.{ve, ev}
-use Rattle.crossings.proofs.Sizes.{two-ef}
+use Rattle.crossings.proofs.Sizes.{two_ef}
 use Rattle.crossing_counts.specs.Words.{slim}
-use Rattle.crossing_counts.proofs.Pairs.{vf-is, side-B-is, count-ef-is, three-same, side-B-same, total-same}
+use Rattle.crossing_counts.proofs.Pairs.{vf_is, side_B_is, count_ef_is, three_same, side_B_same, total_same}
 use borrow.Author.Rules.{rules}
 use Rattle.crossing_counts.proofs.ef.Statement.{statement}
 use Rattle.crossing_counts.proofs.ef.Tie as tie
@@ -80,19 +80,19 @@ returns c =
     let p = c.before.before.before.before.before.before.before.before.ev.ensures.0 in
     let q = c.before.before.before.before.before.before.before.ev2.ensures.0 in
     let r = c.before.before.before.before.before.before.ev3.ensures.0 in
-    let a = c.before.before.before.before.before.three.ensures.0 ∙ three-same f.pq f.qr f.rp v1 v2 v3 ∙ vf-is e.start f in
-    let b = c.before.before.before.before.three2.ensures.0 ∙ three-same f.pq f.qr f.rp w1 w2 w3 ∙ vf-is e.end f in
-    let x = c.before.before.before.side-b.ensures.0 ∙ side-B-same f.pq v1 w1 p q ∙ side-B-is e f.pq f.p f.q in
-    let y = c.before.before.side-b2.ensures.0 ∙ side-B-same f.qr v2 w2 q r ∙ side-B-is e f.qr f.q f.r in
-    let z = c.before.side-b3.ensures.0 ∙ side-B-same f.rp v3 w3 r p ∙ side-B-is e f.rp f.r f.p in
+    let a = c.before.before.before.before.before.three.ensures.0 ∙ three_same f.pq f.qr f.rp v1 v2 v3 ∙ vf_is e.start f in
+    let b = c.before.before.before.before.three2.ensures.0 ∙ three_same f.pq f.qr f.rp w1 w2 w3 ∙ vf_is e.end f in
+    let x = c.before.before.before.side_b.ensures.0 ∙ side_B_same f.pq v1 w1 p q ∙ side_B_is e f.pq f.p f.q in
+    let y = c.before.before.side-b2.ensures.0 ∙ side_B_same f.qr v2 w2 q r ∙ side_B_is e f.qr f.q f.r in
+    let z = c.before.side-b3.ensures.0 ∙ side_B_same f.rp v3 w3 r p ∙ side_B_is e f.rp f.r f.p in
     let ha : to_z w32 (of_z w32 c.before.before.before.before.before.three.result) ≡ c.before.before.before.before.before.three.result = search rules in
     let hb : to_z w32 (of_z w32 c.before.before.before.before.three2.result) ≡ c.before.before.before.before.three2.result = search rules in
-    let hx : to_z w32 (of_z w32 c.before.before.before.side-b.result) ≡ c.before.before.before.side-b.result = search rules in
+    let hx : to_z w32 (of_z w32 c.before.before.before.side_b.result) ≡ c.before.before.before.side_b.result = search rules in
     let hy : to_z w32 (of_z w32 c.before.before.side-b2.result) ≡ c.before.before.side-b2.result = search rules in
     let hz : to_z w32 (of_z w32 c.before.side-b3.result) ≡ c.before.side-b3.result = search rules in
-    let g = c.total.ensures ∙ total-same (ha ∙ a) (hb ∙ b) (hx ∙ x) (hy ∙ y) (hz ∙ z) ∙ sym (count-ef-is e f) in
+    let g = c.total.ensures ∙ total_same (ha ∙ a) (hb ∙ b) (hx ∙ x) (hy ∙ y) (hz ∙ z) ∙ sym (count_ef_is e f) in
     let h : to_z w32 (of_z w32 c.total.result) ≡ c.total.result = search rules in
-    rw h (g, subst (λ n. nat_abs n ≤ 2) (sym g) (two-ef e f))
+    rw h (g, subst (λ n. nat_abs n ≤ 2) (sym g) (two_ef e f))
 
 pub ef-spec : {M : Type 1} → statement M
 ef-spec =

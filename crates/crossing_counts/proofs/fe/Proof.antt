@@ -6,9 +6,9 @@ use lib.IntN.{nat_abs}
 use mir.Syntax.{w32}
 use mir.Val.{to_z, of_z}
 use Rattle.crossings.specs.Crossings.{ve, ev}
-use Rattle.crossings.proofs.Sizes.{two-fe}
+use Rattle.crossings.proofs.Sizes.{two_fe}
 use Rattle.crossing_counts.specs.Words.{slim}
-use Rattle.crossing_counts.proofs.Pairs.{fv-is, side-A-is, count-fe-is, three-same, side-A-same, total-same}
+use Rattle.crossing_counts.proofs.Pairs.{fv_is, side_A_is, count_fe_is, three_same, side_A_same, total_same}
 use borrow.Author.Rules.{rules}
 use Rattle.crossing_counts.proofs.fe.Statement.{statement}
 use Rattle.crossing_counts.proofs.fe.Tie as tie
@@ -108,19 +108,19 @@ returns c =
     let p = c.before.before.before.before.before.before.before.before.before.before.before.before.before.before.ve.ensures.0 in
     let q = c.before.before.before.before.before.before.before.before.before.before.before.before.before.ve2.ensures.0 in
     let r = c.before.before.before.before.before.before.before.before.before.before.before.before.ve3.ensures.0 in
-    let a = c.before.before.before.before.before.before.before.before.three.ensures.0 ∙ three-same (not f.pq) (not f.qr) (not f.rp) v1 v2 v3 ∙ fv-is f e.start in
-    let b = c.before.before.before.before.three2.ensures.0 ∙ three-same (not f.pq) (not f.qr) (not f.rp) w1 w2 w3 ∙ fv-is f e.end in
-    let x = c.before.before.before.side-a.ensures.0 ∙ side-A-same f.pq p q v1 w1 ∙ side-A-is e f.pq f.p f.q in
-    let y = c.before.before.side-a2.ensures.0 ∙ side-A-same f.qr q r v2 w2 ∙ side-A-is e f.qr f.q f.r in
-    let z = c.before.side-a3.ensures.0 ∙ side-A-same f.rp r p v3 w3 ∙ side-A-is e f.rp f.r f.p in
+    let a = c.before.before.before.before.before.before.before.before.three.ensures.0 ∙ three_same (not f.pq) (not f.qr) (not f.rp) v1 v2 v3 ∙ fv_is f e.start in
+    let b = c.before.before.before.before.three2.ensures.0 ∙ three_same (not f.pq) (not f.qr) (not f.rp) w1 w2 w3 ∙ fv_is f e.end in
+    let x = c.before.before.before.side_a.ensures.0 ∙ side_A_same f.pq p q v1 w1 ∙ side_A_is e f.pq f.p f.q in
+    let y = c.before.before.side-a2.ensures.0 ∙ side_A_same f.qr q r v2 w2 ∙ side_A_is e f.qr f.q f.r in
+    let z = c.before.side-a3.ensures.0 ∙ side_A_same f.rp r p v3 w3 ∙ side_A_is e f.rp f.r f.p in
     let ha : to_z w32 (of_z w32 c.before.before.before.before.before.before.before.before.three.result) ≡ c.before.before.before.before.before.before.before.before.three.result = search rules in
     let hb : to_z w32 (of_z w32 c.before.before.before.before.three2.result) ≡ c.before.before.before.before.three2.result = search rules in
-    let hx : to_z w32 (of_z w32 c.before.before.before.side-a.result) ≡ c.before.before.before.side-a.result = search rules in
+    let hx : to_z w32 (of_z w32 c.before.before.before.side_a.result) ≡ c.before.before.before.side_a.result = search rules in
     let hy : to_z w32 (of_z w32 c.before.before.side-a2.result) ≡ c.before.before.side-a2.result = search rules in
     let hz : to_z w32 (of_z w32 c.before.side-a3.result) ≡ c.before.side-a3.result = search rules in
-    let g = c.total.ensures ∙ total-same (hb ∙ b) (ha ∙ a) (hx ∙ x) (hy ∙ y) (hz ∙ z) ∙ sym (count-fe-is f e) in
+    let g = c.total.ensures ∙ total_same (hb ∙ b) (ha ∙ a) (hx ∙ x) (hy ∙ y) (hz ∙ z) ∙ sym (count_fe_is f e) in
     let h : to_z w32 (of_z w32 c.total.result) ≡ c.total.result = search rules in
-    rw h (g, subst (λ n. nat_abs n ≤ 2) (sym g) (two-fe f e))
+    rw h (g, subst (λ n. nat_abs n ≤ 2) (sym g) (two_fe f e))
 
 pub fe-spec : {M : Type 1} → statement M
 fe-spec =

@@ -6,9 +6,9 @@ use lib.IntN.{◌+ℤ◌, +ℤ_idr}
 use mir.Syntax.{w32}
 use mir.Val.{to_z, of_z}
 use Rattle.list_words.specs.Lists.{sum_of, nonzero}
-use Rattle.crossings.proofs.Fits.{zero-not}
+use Rattle.crossings.proofs.Fits.{zero_not}
 use Rattle.crossing_counts.specs.Words.{turned, counted, four}
-use Rattle.crossing_counts.proofs.Slims.{shade-none}
+use Rattle.crossing_counts.proofs.Slims.{shade_none}
 use borrow.Author.Rules.{rules}
 use Rattle.crossing_counts.proofs.four.Statement.{statement}
 use Rattle.crossing_counts.proofs.four.Tie as tie
@@ -41,17 +41,17 @@ returns c =
     let hu : to_z w32 (of_z w32 u.result) ≡ u.result = search rules in
     let hv : to_z w32 (of_z w32 v.result) ≡ v.result = search rules in
     let e = (rw (hs, ht, hu, hv) at c.before.added.ensures) ∙ ap₂ ◌+ℤ◌ s.ensures.0 (ap₂ ◌+ℤ◌ t.ensures.0 (ap₂ ◌+ℤ◌ u.ensures.0 (v.ensures.0 ∙ sym (+ℤ_idr (counted a.v))))) in
-    let none = ap nonzero (sym e) ∙ zero-not c.before.added.result (search rules) c.if1.true in
-    (sym (shade-none (turned a.s ∷ a.t ∷ turned a.u ∷ a.v ∷ []) none), omega arith)
+    let none = ap nonzero (sym e) ∙ zero_not c.before.added.result (search rules) c.if1.true in
+    (sym (shade_none (turned a.s ∷ a.t ∷ turned a.u ∷ a.v ∷ []) none), omega arith)
 
 gather-four-requires : tie.Need-gather-four-requires
 gather-four-requires c κs = search rules
 
-returns-2 : tie.Need-returns-2
-returns-2 c =
+returns_2 : tie.Need-returns-2
+returns_2 c =
     let r = c.gather-four.result in
     let h : to_z w32 (of_z w32 r) ≡ r = search rules in
     rw h c.gather-four.ensures
 
 pub four-spec : {M : Type 1} → statement M
-four-spec = tie.close (tie.spec counted-if-requires counted-requires counted-if-requires-2 counted-requires-2 added-requires returns gather-four-requires returns-2)
+four-spec = tie.close (tie.spec counted-if-requires counted-requires counted-if-requires-2 counted-requires-2 added-requires returns gather-four-requires returns_2)

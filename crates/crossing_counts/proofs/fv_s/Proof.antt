@@ -7,9 +7,9 @@ use mir.Syntax.{w32}
 use mir.Val.{to_z, of_z}
 use Rattle.points.specs.declared.Axis.TheVariants.{Z}
 use Rattle.crossings.specs.Crossings.{ev, fv}
-use Rattle.crossings.proofs.Sizes.{S-size, small-fv}
+use Rattle.crossings.proofs.Sizes.{S_size, small_fv}
 use Rattle.crossing_counts.specs.Words.{slim}
-use Rattle.crossing_counts.proofs.Pairs.{fv-is, three-same}
+use Rattle.crossing_counts.proofs.Pairs.{fv_is, three_same}
 use borrow.Author.Rules.{rules}
 use Rattle.crossing_counts.proofs.fv_s.Statement.{statement}
 use Rattle.crossing_counts.proofs.fv_s.Tie as tie
@@ -43,9 +43,9 @@ returns c =
     let x = c.before.before.before.before.before.before.before.before.ev.ensures.0 ∙ ap (λ h. slim (ev h v)) c.before.before.before.before.before.before.before.before.before.edge_of.ensures in
     let y = c.before.before.before.before.before.before.ev2.ensures.0 ∙ ap (λ h. slim (ev h v)) c.before.before.before.before.before.before.before.edge-of2.ensures in
     let z = c.before.before.before.before.ev3.ensures.0 ∙ ap (λ h. slim (ev h v)) c.before.before.before.before.before.edge-of3.ensures in
-    let e = c.three.ensures.0 ∙ three-same (not f.pq) (not f.qr) (not f.rp) x y z ∙ fv-is f v in
+    let e = c.three.ensures.0 ∙ three_same (not f.pq) (not f.qr) (not f.rp) x y z ∙ fv_is f v in
     let h : to_z w32 (of_z w32 c.three.result) ≡ c.three.result = search rules in
-    rw h (e, subst (λ n. nat_abs n ≤ 1) (sym e) (S-size Z 1 (fv f v) (small-fv f v)))
+    rw h (e, subst (λ n. nat_abs n ≤ 1) (sym e) (S_size Z 1 (fv f v) (small_fv f v)))
 
 pub fv-s-spec : {M : Type 1} → statement M
 fv-s-spec =

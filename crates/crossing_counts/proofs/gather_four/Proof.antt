@@ -42,7 +42,7 @@ returns c =
     let w2 = c.before.before.before.before.with2.ensures in
     let w3 = c.before.before.before.with3.ensures in
     let w4 = c.before.with4.ensures in
-    let e2 = w2.0 ∙ ap₂ with c.before.before.before.before.before.turned-if.ensures.0 (w1.0 ∙ ap (with s.v) c.before.before.before.before.before.before.before.nothing.ensures.0) in
+    let e2 = w2.0 ∙ ap₂ with c.before.before.before.before.before.turned_if.ensures.0 (w1.0 ∙ ap (with s.v) c.before.before.before.before.before.before.before.nothing.ensures.0) in
     let e = w4.0 ∙ ap₂ with c.before.before.turned-if2.ensures.0 (w3.0 ∙ ap (with s.t) e2) in
     rw h (c.shade.ensures.0 ∙ ap shade e, omega (arith, c.shade.ensures.1, w1.1, w2.1, w3.1, w4.1, c.before.before.before.before.before.before.before.nothing.ensures.1))
 

@@ -40,7 +40,7 @@ returns c =
     let w1 = c.before.before.before.before.before.with.ensures in
     let w2 = c.before.before.before.with2.ensures in
     let w3 = c.before.with3.ensures in
-    let e = w3.0 ∙ ap₂ with c.before.before.turned-if3.ensures.0 (w2.0 ∙ ap₂ with c.before.before.before.before.turned-if2.ensures.0 (w1.0 ∙ ap₂ with c.before.before.before.before.before.before.turned-if.ensures.0 c.before.before.before.before.before.before.before.nothing.ensures.0)) in
+    let e = w3.0 ∙ ap₂ with c.before.before.turned-if3.ensures.0 (w2.0 ∙ ap₂ with c.before.before.before.before.turned-if2.ensures.0 (w1.0 ∙ ap₂ with c.before.before.before.before.before.before.turned_if.ensures.0 c.before.before.before.before.before.before.before.nothing.ensures.0)) in
     rw h (c.shade.ensures.0 ∙ ap shade e, omega (arith, c.shade.ensures.1, w1.1, w2.1, w3.1, c.before.before.before.before.before.before.before.nothing.ensures.1))
 
 pub gather-three-spec : {M : Type 1} → statement M

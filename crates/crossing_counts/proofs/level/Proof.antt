@@ -31,8 +31,8 @@ returns c =
 placed-requires : tie.Need-placed-requires
 placed-requires c κs = search rules
 
-returns-2 : tie.Need-returns-2
-returns-2 c =
+returns_2 : tie.Need-returns-2
+returns_2 c =
     let s = c.before.before.before.before.before.before in
     let p = s.args.start in
     let q = s.args.end in
@@ -95,7 +95,7 @@ level-spec =
     miss-requires
     returns
     placed-requires
-    returns-2
+    returns_2
     placed-requires-2
     returns-3
     at-least-requires-3

@@ -2,7 +2,7 @@
 use mathlib.Core.Path.{◌≡◌, refl}
 use mir.Syntax.{w32}
 use mir.Val.{to_z, of_z}
-use Rattle.points.specs.Points.{placed, pair-at, point_at}
+use Rattle.points.specs.Points.{placed, pair_at, point_at}
 use borrow.Author.Rules.{rules}
 use Rattle.crossing_counts.proofs.placed.Statement.{statement}
 use Rattle.crossing_counts.proofs.placed.Tie as tie
@@ -29,7 +29,7 @@ interpolated-requires-4 : tie.Need-interpolated-requires-4
 interpolated-requires-4 c κs = search rules
 
 returns : tie.Need-returns
-unfolding placed pair-at point_at
+unfolding placed pair_at point_at
 returns c =
     let s = c.before.before.before.before.before.before.before in
     let h : to_z w32 (of_z w32 s.args.n) ≡ s.args.n = search rules in

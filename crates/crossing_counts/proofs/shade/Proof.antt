@@ -4,16 +4,16 @@ use lib.Ieee.{le}
 use mir.Syntax.{w32}
 use mir.Val.{to_z, of_z}
 use Rattle.points.specs.Points.{interpolated}
-use Rattle.crossings.proofs.Fits.{zero-not, not-zero}
+use Rattle.crossings.proofs.Fits.{zero_not, not_zero}
 use Rattle.crossing_counts.specs.Words.{shade}
-use Rattle.crossing_counts.proofs.Slims.{shade-sized}
+use Rattle.crossing_counts.proofs.Slims.{shade_sized}
 use borrow.Author.Rules.{rules}
 use Rattle.crossing_counts.proofs.shade.Statement.{statement}
 use Rattle.crossing_counts.proofs.shade.Tie as tie
 
 returns : tie.Need-returns
 unfolding shade
-returns c = let g = c.before.before.args.g in shade-sized g (rw (zero-not g.n (search rules) c.if1.true))
+returns c = let g = c.before.before.args.g in shade_sized g (rw (zero_not g.n (search rules) c.if1.true))
 
 share-requires : tie.Need-share-requires
 share-requires c κs = search rules
@@ -24,15 +24,15 @@ interpolated-requires c κs = search rules
 interpolated-requires-2 : tie.Need-interpolated-requires-2
 interpolated-requires-2 c κs = search rules
 
-returns-2 : tie.Need-returns-2
+returns_2 : tie.Need-returns-2
 unfolding shade
-returns-2 c =
+returns_2 c =
     let g = c.before.before.before.before.before.before.before.before.before.before.args.g in
     let n = g.n in
     let h : to_z w32 (of_z w32 n) ≡ n = search rules in
     let t = c.before.before.before.share.ensures in
     let w = ap₂ le (c.before.before.interpolated.ensures ∙ ap (λ t. interpolated t g.plus.az g.minus.az) t) (c.before.interpolated2.ensures ∙ ap (λ t. interpolated t g.plus.bz g.minus.bz) t) in
-    rw h (shade-sized g (rw (not-zero n c.before.before.before.before.before.before.before.before.if1.false, sym w ∙ c.if2.true)))
+    rw h (shade_sized g (rw (not_zero n c.before.before.before.before.before.before.before.before.if1.false, sym w ∙ c.if2.true)))
 
 returns-3 : tie.Need-returns-3
 unfolding shade
@@ -41,7 +41,7 @@ returns-3 c =
     let n = g.n in
     let t = c.before.before.before.share.ensures in
     let w = ap₂ le (c.before.before.interpolated.ensures ∙ ap (λ t. interpolated t g.plus.az g.minus.az) t) (c.before.interpolated2.ensures ∙ ap (λ t. interpolated t g.plus.bz g.minus.bz) t) in
-    shade-sized g (rw (not-zero n c.before.before.before.before.before.before.before.before.if1.false, sym w ∙ c.if2.false))
+    shade_sized g (rw (not_zero n c.before.before.before.before.before.before.before.before.if1.false, sym w ∙ c.if2.false))
 
 pub shade-spec : {M : Type 1} → statement M
 shade-spec =
@@ -51,5 +51,5 @@ shade-spec =
     share-requires
     interpolated-requires
     interpolated-requires-2
-    returns-2
+    returns_2
     returns-3)

@@ -5,7 +5,7 @@ use lib.IntN.{neg_ℤ, +ℤ_idl}
 use mir.Syntax.{w32}
 use mir.Val.{to_z, of_z}
 use mir.Facts.{to_z-of_z}
-use Rattle.list_words.proofs.Integers.{bnd-neg}
+use Rattle.list_words.proofs.Integers.{bnd_neg}
 use Rattle.crossings.proofs.Fits.{fits_neg}
 use borrow.Author.Rules.{rules}
 use Rattle.crossing_counts.proofs.side_b.Statement.{statement}
@@ -29,11 +29,11 @@ returns c =
     let h : to_z w32 (of_z w32 r) ≡ r = search rules in
     rw (h, c.before.if1.true) (c.four.ensures.0, c.four.ensures.1)
 
-returns-2 : tie.Need-returns-2
-returns-2 c =
+returns_2 : tie.Need-returns-2
+returns_2 c =
     let r = c.four2.result in
     let h : to_z w32 (of_z w32 r) ≡ r = search rules in
-    rw (to_z-of_z (sub-result c), h, +ℤ_idl (neg_ℤ r), c.before.if1.false) (ap neg_ℤ c.four2.ensures.0, bnd-neg 4 r c.four2.ensures.1)
+    rw (to_z-of_z (sub-result c), h, +ℤ_idl (neg_ℤ r), c.before.if1.false) (ap neg_ℤ c.four2.ensures.0, bnd_neg 4 r c.four2.ensures.1)
 
 pub side-b-spec : {M : Type 1} → statement M
-side-b-spec = tie.close (tie.spec four-requires four-requires-2 sub-result returns returns-2)
+side-b-spec = tie.close (tie.spec four-requires four-requires-2 sub-result returns returns_2)

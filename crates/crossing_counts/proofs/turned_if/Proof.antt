@@ -5,7 +5,7 @@ use lib.IntN.{neg_ℤ, +ℤ_idl}
 use mir.Syntax.{w32}
 use mir.Val.{to_z, of_z}
 use mir.Facts.{to_z-of_z}
-use Rattle.list_words.proofs.Integers.{bnd-neg}
+use Rattle.list_words.proofs.Integers.{bnd_neg}
 use Rattle.crossings.proofs.Fits.{fits_neg}
 use borrow.Author.Rules.{rules}
 use Rattle.crossing_counts.proofs.turned_if.Statement.{statement}
@@ -23,10 +23,10 @@ returns c =
     let s = c.before.before.before in
     let n = s.args.c.n in
     let h : to_z w32 (of_z w32 n) ≡ n = search rules in
-    rw (to_z-of_z (sub-t5 c), h, +ℤ_idl (neg_ℤ n), c.before.before.if1.true) (refl, bnd-neg 1 n s.requires)
+    rw (to_z-of_z (sub-t5 c), h, +ℤ_idl (neg_ℤ n), c.before.before.if1.true) (refl, bnd_neg 1 n s.requires)
 
-returns-2 : tie.Need-returns-2
-returns-2 c = let s = c.before in rw c.if1.false (refl, s.requires)
+returns_2 : tie.Need-returns-2
+returns_2 c = let s = c.before in rw c.if1.false (refl, s.requires)
 
 pub turned-if-spec : {M : Type 1} → statement M
-turned-if-spec = tie.close (tie.spec sub-t5 returns returns-2)
+turned-if-spec = tie.close (tie.spec sub-t5 returns returns_2)

@@ -6,9 +6,9 @@ use mir.Syntax.{w32}
 use mir.Val.{to_z, of_z}
 use Rattle.points.specs.declared.Axis.TheVariants.{Z}
 use Rattle.crossings.specs.Crossings.{ve, vf}
-use Rattle.crossings.proofs.Sizes.{S-size, small-vf}
+use Rattle.crossings.proofs.Sizes.{S_size, small_vf}
 use Rattle.crossing_counts.specs.Words.{slim}
-use Rattle.crossing_counts.proofs.Pairs.{vf-is, three-same}
+use Rattle.crossing_counts.proofs.Pairs.{vf_is, three_same}
 use borrow.Author.Rules.{rules}
 use Rattle.crossing_counts.proofs.vf_s.Statement.{statement}
 use Rattle.crossing_counts.proofs.vf_s.Tie as tie
@@ -42,9 +42,9 @@ returns c =
     let x = c.before.before.before.before.before.ve.ensures.0 ∙ ap (λ h. slim (ve v h)) c.before.before.before.before.before.before.edge_of.ensures in
     let y = c.before.before.before.ve2.ensures.0 ∙ ap (λ h. slim (ve v h)) c.before.before.before.before.edge-of2.ensures in
     let z = c.before.ve3.ensures.0 ∙ ap (λ h. slim (ve v h)) c.before.before.edge-of3.ensures in
-    let e = c.three.ensures.0 ∙ three-same (f.pq) (f.qr) (f.rp) x y z ∙ vf-is v f in
+    let e = c.three.ensures.0 ∙ three_same (f.pq) (f.qr) (f.rp) x y z ∙ vf_is v f in
     let h : to_z w32 (of_z w32 c.three.result) ≡ c.three.result = search rules in
-    rw h (e, subst (λ n. nat_abs n ≤ 1) (sym e) (S-size Z 1 (vf v f) (small-vf v f)))
+    rw h (e, subst (λ n. nat_abs n ≤ 1) (sym e) (S_size Z 1 (vf v f) (small_vf v f)))
 
 pub vf-s-spec : {M : Type 1} → statement M
 vf-s-spec =

@@ -13,14 +13,14 @@ use Rattle.solids.proofs.Admitted.{passed}
 use Rattle.layouts.specs.Words.{Listing}
 use Rattle.bounds.specs.declared.Bounds.{Bounds}
 use Rattle.bounds.specs.declared.Far.TheVariants.{Apart}
-use Rattle.bounds.specs.Words.{apart, span, box-at, Narrowed}
+use Rattle.bounds.specs.Words.{apart, span, box_at, Narrowed}
 use Rattle.bounds.proofs.Inside.{In}
-use Rattle.bounds.proofs.Listing.{narrowed-among, narrowed-own}
+use Rattle.bounds.proofs.Listing.{narrowed_among, narrowed_own}
 use Rattle.crossing_groups.specs.declared.Search.{Search}
 use Rattle.crossing_rows.specs.Words.{row, round, Lying, row_of}
 use Rattle.crossing_groups.specs.Words.{Searching, Enough, Offered, Reached}
-use Rattle.crossing_rows.proofs.Listings.{below, below-within}
-use Rattle.crossing_groups.proofs.Searches.{rows_in, enough-near, enough-apart, among-apart}
+use Rattle.crossing_rows.proofs.Listings.{below, below_within}
+use Rattle.crossing_groups.proofs.Searches.{rows_in, enough_near, enough_apart, among_apart}
 use borrow.Author.Rules.{rules}
 use Rattle.crossing_groups.proofs.find_groups.Statement.{statement}
 use Rattle.crossing_groups.proofs.find_groups.Tie as tie
@@ -38,8 +38,8 @@ module _ (s : tie.Start invariant-loop decreases-loop) where
   abbrev other : Solid
   other = solid s.args.bp.now s.args.bc.now
 
-  abbrev of-A : ℕ → List (ℕ × ℤ)
-  of-A = row s.args.search.sign one other
+  abbrev of_A : ℕ → List (ℕ × ℤ)
+  of_A = row s.args.search.sign one other
 
   module _ (r e : ℕ) (from : s.args.search.begin ≤ r) (rise : r < e) (to : e ≤ s.args.search.end) where
     abbrev group : Search
@@ -63,20 +63,20 @@ module _ (s : tie.Start invariant-loop decreases-loop) where
 
     -- the columns near the box round the group are enough for it
     offered : (p : Bounds) → p ≡ span (λ i. round (row_of one i)) r (e - r) → {few : List ℕ} {n : ℕ}
-        → Narrowed few Apart p (box-at s.args.boxes.now) (cond (apart p s.args.search.other) [] s.args.columns.now) n → Offered group one other (take n few) s.args.boxes.now
+        → Narrowed few Apart p (box_at s.args.boxes.now) (cond (apart p s.args.search.other) [] s.args.columns.now) n → Offered group one other (take n few) s.args.boxes.now
     offered p d h =
         let o = s.pre.1.1.0 in
         let columns = s.args.columns.now in
         let w = apart p s.args.search.other in
-        let pa = passed one s.pre.0.passed-a in
+        let pa = passed one s.pre.0.passed_a in
         let pb = passed other s.pre.0.passed_b in
         let inside : (i : ℕ) → r ≤ i → i < e → Lying (In p) (row_of one i) = λ i f t. subst (λ p. Lying (In p) (row_of one i)) (sym d) (rows_in one other pa pb group i f t) in
-        let met = among-apart w o.among in
-        let enough = enough-apart one other pa pb group searching columns p inside (λ i f t. o.enough i (omega (arith, f)) (omega (arith, t))) o.among w (ap (apart p) (sym s.pre.1.0.other)) in
+        let met = among_apart w o.among in
+        let enough = enough_apart one other pa pb group searching columns p inside (λ i f t. o.enough i (omega (arith, f)) (omega (arith, t))) o.among w (ap (apart p) (sym s.pre.1.0.other)) in
         record {
           boxed = o.boxed;
-          among = narrowed-among h met;
-          enough = subst (Enough group one other) (sym (narrowed-own h o.boxed met)) (enough-near one other pa pb group searching (cond w [] columns) p inside enough);
+          among = narrowed_among h met;
+          enough = subst (Enough group one other) (sym (narrowed_own h o.boxed met)) (enough_near one other pa pb group searching (cond w [] columns) p inside enough);
         }
 
 loop-holds : tie.Need-loop-init invariant-loop decreases-loop
@@ -92,7 +92,7 @@ round-rows-requires : tie.Need-round-rows-requires invariant-loop decreases-loop
 round-rows-requires c κs =
     let s = c.before.before.before.before.before.before.before.before.before.before.before.before.before.before in
     let g = c.before.group-end.ensures in
-    ((s.requires.0.ready-a, s.requires.1.0.edges), (omega (arith, g.0), omega (arith, g.1, s.requires.1.0.end)))
+    ((s.requires.0.ready_a, s.requires.1.0.edges), (omega (arith, g.0), omega (arith, g.1, s.requires.1.0.end)))
 
 slice-aggregate-narrow : tie.Need-slice-aggregate-narrow invariant-loop decreases-loop
 slice-aggregate-narrow c = omega (arith, c.before.before.before.before.before.before.loop.invariant.4)
@@ -135,8 +135,8 @@ enum_told c = search rules
 same_length : tie.Need-same-length invariant-loop decreases-loop
 same_length c = c.before.before.before.before.before.before.find-rows.ensures.1.0 ∙ c.before.before.before.before.before.before.before.before.before.before.before.before.before.before.before.before.before.before.loop.invariant.2
 
-same-length-2 : tie.Need-same-length-2 invariant-loop decreases-loop
-same-length-2 c = c.before.before.before.before.before.before.find-rows.ensures.1.1 ∙ c.before.before.before.before.before.before.before.before.before.before.before.before.before.before.before.before.before.before.loop.invariant.3
+same_length_2 : tie.Need-same-length-2 invariant-loop decreases-loop
+same_length_2 c = c.before.before.before.before.before.before.find-rows.ensures.1.1 ∙ c.before.before.before.before.before.before.before.before.before.before.before.before.before.before.before.before.before.before.loop.invariant.3
 
 returns : tie.Need-returns invariant-loop decreases-loop
 returns c =
@@ -147,7 +147,7 @@ returns c =
     let first = x.new.1.1.1.1.1.1.1.1.0 in
     let new = x.new.1.1.1.1.1.1.1.1.1.0 in
     let full = subst (Reached s.args.search.sign (one s) (other s) g.result first new) c.enum_told.given.1 x.ensures.0 in
-    (omega (arith, full, below-within (of-A s) g.result s.args.search.end g.ensures.1), (x.ensures.1.0 ∙ l.invariant.2, x.ensures.1.1 ∙ l.invariant.3))
+    (omega (arith, full, below_within (of_A s) g.result s.args.search.end g.ensures.1), (x.ensures.1.0 ∙ l.invariant.2, x.ensures.1.1 ∙ l.invariant.3))
 
 loop-less : tie.Need-loop-smaller invariant-loop decreases-loop
 loop-less c =
@@ -187,13 +187,13 @@ same-length-3 c = c.before.before.before.loop.invariant.2
 same-length-4 : tie.Need-same-length-4 invariant-loop decreases-loop
 same-length-4 c = c.before.before.before.loop.invariant.3
 
-returns-2 : tie.Need-returns-2 invariant-loop decreases-loop
-returns-2 c =
+returns_2 : tie.Need-returns-2 invariant-loop decreases-loop
+returns_2 c =
     let s = c.before.before.before.before.before.before.before.before.before.before.before.before.before in
     let l = c.before.before.before.loop in
     let q = le_antisymm l.invariant.1 c.before.if1.false in
-    let h = subst (λ r. Listing (of-A s) r l.first l.crossed) q l.invariant.5 in
-    ((l.invariant.5.starts l.r (omega arith) ∙ ap (λ r. length (below (of-A s) r)) q, h), (l.invariant.2, l.invariant.3))
+    let h = subst (λ r. Listing (of_A s) r l.first l.crossed) q l.invariant.5 in
+    ((l.invariant.5.starts l.r (omega arith) ∙ ap (λ r. length (below (of_A s) r)) q, h), (l.invariant.2, l.invariant.3))
 
 pub find-groups-spec : {M : Type 1} → statement M
 find-groups-spec =
@@ -213,7 +213,7 @@ find-groups-spec =
     enum-known-total
     enum_told
     same_length
-    same-length-2
+    same_length_2
     returns
     loop-less
     loop-again
@@ -222,4 +222,4 @@ find-groups-spec =
     cast-t32
     same-length-3
     same-length-4
-    returns-2)
+    returns_2)

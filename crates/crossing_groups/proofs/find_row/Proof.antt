@@ -12,16 +12,16 @@ use lib.Seq.{take-length}
 use mir.Syntax.{w32}
 use mir.Val.{to_z, of_z}
 use Rattle.list_words.specs.Lists.{keep}
-use Rattle.list_words.proofs.Widths.{back-32}
-use Rattle.list_words.proofs.Tests.{not-false}
+use Rattle.list_words.proofs.Widths.{back_32}
+use Rattle.list_words.proofs.Tests.{not_false}
 use Rattle.solids.specs.Solids.{Solid, solid}
 use Rattle.solids.proofs.Admitted.{passed}
 use Rattle.bounds.specs.declared.Far.TheVariants.{Apart}
 use Rattle.bounds.specs.Words.{apart, far, box_of}
-use Rattle.bounds.proofs.Things.{lies-box}
+use Rattle.bounds.proofs.Things.{lies_box}
 use Rattle.crossing_rows.specs.Words.{round, across, count_of, crossing, Behind, Added}
-use Rattle.crossing_rows.proofs.Listings.{crossing-skip, crossing-next, crossing-within, behind-none, behind-then}
-use Rattle.crossing_rows.proofs.Rowwise.{in-round, no-count, none-crossed}
+use Rattle.crossing_rows.proofs.Listings.{crossing_skip, crossing_next, crossing_within, behind_none, behind_then}
+use Rattle.crossing_rows.proofs.Rowwise.{in_round, no_count, none_crossed}
 use borrow.Author.Rules.{rules}
 use Rattle.crossing_groups.proofs.find_row.Statement.{statement}
 use Rattle.crossing_groups.proofs.find_row.Tie as tie
@@ -42,22 +42,22 @@ abbrev of_row : Start → ℕ → ℤ
 of_row s = count_of s.args.row (other s)
 
 back : (s : Start) → to_z w32 (of_z w32 s.args.search.sign) ≡ s.args.search.sign
-back s = back-32 s.args.search.sign (omega (arith, s.requires.1.0.0))
+back s = back_32 s.args.search.sign (omega (arith, s.requires.1.0.0))
 
 -- nothing is crossed where the boxes are apart
-none-column : (s : Start) (c : ℕ) → far Apart (round s.args.row) (box_of (across s.args.row) (other s) c) ≡ true → of_row s c ≡ pos 0
+none_column : (s : Start) (c : ℕ) → far Apart (round s.args.row) (box_of (across s.args.row) (other s) c) ≡ true → of_row s c ≡ pos 0
 unfolding far
-none-column s c h =
+none_column s c h =
     let b = other s in
     let row = s.args.row in
-    no-count row b c (round row) (box_of (across row) b c) h (in-round row s.requires.0.2) (lies-box b (passed b s.requires.0.1) (across row) c)
+    no_count row b c (round row) (box_of (across row) b c) h (in_round row s.requires.0.2) (lies_box b (passed b s.requires.0.1) (across row) c)
 
 -- one column more, where there was room for it, and where there was none
 more : (s : Start) (i : ℕ) {mid new : List ℕ} {k total : ℕ} → i < length s.args.columns.now
     → Behind s.args.crossed.now s.args.from (crossing s.args.search.sign (of_row s) (take i s.args.columns.now)) mid k
     → Behind mid k (crossing s.args.search.sign (of_row s) (get_or s.args.columns.now i 0 ∷ [])) new total
     → Behind s.args.crossed.now s.args.from (crossing s.args.search.sign (of_row s) (take (i + 1) s.args.columns.now)) new total
-more s i l h g = rw (crossing-next s.args.search.sign (of_row s) s.args.columns.now i l) (behind-then h g)
+more s i l h g = rw (crossing_next s.args.search.sign (of_row s) s.args.columns.now i l) (behind_then h g)
 
 full : (s : Start) (i : ℕ) {mid : List ℕ} {n k : ℕ} → i < length s.args.columns.now
     → Behind s.args.crossed.now s.args.from (crossing s.args.search.sign (of_row s) (take i s.args.columns.now)) mid k
@@ -70,9 +70,9 @@ full s i l h g =
       arith,
       g,
       h.size,
-      ap length (crossing-next sign (of_row s) columns i l),
+      ap length (crossing_next sign (of_row s) columns i l),
       length-append (crossing sign (of_row s) (take i columns)) (crossing sign (of_row s) (get_or columns i 0 ∷ [])),
-      crossing-within sign (of_row s) columns (i + 1),
+      crossing_within sign (of_row s) columns (i + 1),
     )
 
 round-requires : tie.Need-round-requires invariant-loop decreases-loop
@@ -87,12 +87,12 @@ returns c =
     let b = other s in
     let row = s.args.row in
     let e = ap₂ apart (sym c.before.before.round.ensures) (sym s.requires.1.0.1) ∙ sym c.before.apart.ensures ∙ c.if1.true in
-    (rw (none-crossed s.args.search.sign row b (passed b s.requires.0.1) (round row) e (in-round row s.requires.0.2) s.requires.1.1.1) (behind-none s.args.crossed.now s.args.from s.requires.1.1.2), refl)
+    (rw (none_crossed s.args.search.sign row b (passed b s.requires.0.1) (round row) e (in_round row s.requires.0.2) s.requires.1.1.1) (behind_none s.args.crossed.now s.args.from s.requires.1.1.2), refl)
 
 loop-holds : tie.Need-loop-init invariant-loop decreases-loop
 unfolding keep
 loop-holds c =
-    let s = c.before.before.before.before.before.before.before.before.before in (omega arith, refl, behind-none s.args.crossed.now s.args.from s.requires.1.1.2)
+    let s = c.before.before.before.before.before.before.before.before.before in (omega arith, refl, behind_none s.args.crossed.now s.args.from s.requires.1.1.2)
 
 mul-column : tie.Need-overflow-mul-column invariant-loop decreases-loop
 mul-column c = record { fits = omega (arith, c.loop-test.true, c.before.before.before.before.before.before.before.before.before.before.before.requires.1.1.1.few) }
@@ -122,8 +122,8 @@ same_length : tie.Need-same-length invariant-loop decreases-loop
 same_length c =
     c.before.before.before.before.add.ensures.1 ∙ c.before.before.before.before.before.before.before.before.before.before.before.loop.invariant.1
 
-returns-2 : tie.Need-returns-2 invariant-loop decreases-loop
-returns-2 c =
+returns_2 : tie.Need-returns-2 invariant-loop decreases-loop
+returns_2 c =
     let s = c.before.before.before.before.before.before.before.before.before.before.before.before.before.before.before.before.before.before.before.before.before in
     let l = c.before.before.before.before.before.before.before.before.before.before.before.loop in
     let x = c.before.before.before.before.add in
@@ -155,13 +155,13 @@ loop-again c =
     rw (w.9, w.10) (omega (arith, t), x.ensures.1 ∙ l.invariant.1, more s l.i t l.invariant.2 h))
     (λ w.
     let own = s.requires.1.1.0.own column (s.requires.1.1.1.there l.i t) in
-    let e = ap₂ (far Apart) (sym c.before.before.before.before.before.before.before.round.ensures) (sym own) ∙ sym c.before.far_at.ensures ∙ not-false c.before.far_at.result w.0.left in
-    let none = crossing-skip sign (of_row s) column [] (none-column s column e) in
-    rw (w.1, w.2) (omega (arith, t), l.invariant.1, more s l.i t l.invariant.2 (rw none (behind-none l.crossed l.k l.invariant.2.room))))
+    let e = ap₂ (far Apart) (sym c.before.before.before.before.before.before.before.round.ensures) (sym own) ∙ sym c.before.far_at.ensures ∙ not_false c.before.far_at.result w.0.left in
+    let none = crossing_skip sign (of_row s) column [] (none_column s column e) in
+    rw (w.1, w.2) (omega (arith, t), l.invariant.1, more s l.i t l.invariant.2 (rw none (behind_none l.crossed l.k l.invariant.2.room))))
     c.if2.branch
 
-same-length-2 : tie.Need-same-length-2 invariant-loop decreases-loop
-same-length-2 c = c.before.loop.invariant.1
+same_length_2 : tie.Need-same-length-2 invariant-loop decreases-loop
+same_length_2 c = c.before.loop.invariant.1
 
 returns-3 : tie.Need-returns-3 invariant-loop decreases-loop
 returns-3 c =
@@ -189,9 +189,9 @@ find-row-spec =
     enum-known-next
     enum_told
     same_length
-    returns-2
+    returns_2
     add-i
     loop-less
     loop-again
-    same-length-2
+    same_length_2
     returns-3)

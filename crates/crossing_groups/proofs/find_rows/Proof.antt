@@ -14,8 +14,8 @@ use Rattle.crossing_rows.specs.declared.Listed.{Listed}
 use Rattle.crossing_rows.specs.declared.Row.{Row}
 use Rattle.crossing_rows.specs.Words.{row, across, count_of, row_of, crossing, Added}
 use Rattle.list_words.proofs.Places.{rest_all}
-use Rattle.crossing_rows.proofs.Listings.{below, below_next, below-within, listing-next}
-use Rattle.crossing_rows.proofs.Rowwise.{row-present}
+use Rattle.crossing_rows.proofs.Listings.{below, below_next, below_within, listing_next}
+use Rattle.crossing_rows.proofs.Rowwise.{row_present}
 use borrow.Author.Rules.{rules}
 use Rattle.crossing_groups.proofs.find_rows.Statement.{statement}
 use Rattle.crossing_groups.proofs.find_rows.Tie as tie
@@ -34,8 +34,8 @@ module _ (s : tie.Start invariant-loop decreases-loop) where
   abbrev other : Solid
   other = solid s.args.bp.now s.args.bc.now
 
-  abbrev of-A : ℕ → List (ℕ × ℤ)
-  of-A = row s.args.search.sign one other
+  abbrev of_A : ℕ → List (ℕ × ℤ)
+  of_A = row s.args.search.sign one other
 
   module _ (r : ℕ) (from : s.args.search.begin ≤ r) (to : r < s.args.search.end) where
     kind : across (row_of one r) ≡ s.args.search.thing
@@ -48,7 +48,7 @@ module _ (s : tie.Start invariant-loop decreases-loop) where
     among = subst (λ t. Among s.args.columns.now t other) (sym kind) s.pre.1.1.0.among
 
     added : (old new : List ℕ) (at : ℕ) (w : Row) (x : Listed) → w ≡ row_of one r → Added old at (crossing s.args.search.sign (count_of w other) s.args.columns.now) new x
-        → Added old at (of-A r) new x
+        → Added old at (of_A r) new x
     added old new at w x e h =
         subst (λ m. Added old at m new x) (s.pre.1.1.0.enough r from to)
         (subst (λ w. Added old at (crossing s.args.search.sign (count_of w other) s.args.columns.now) new x) e h)
@@ -62,7 +62,7 @@ slice-aggregate-row-at c = let s = c.before.before.before.before.before.before.b
 
 row-at-requires : tie.Need-row-at-requires invariant-loop decreases-loop
 row-at-requires c κs =
-    let s = c.before.before.before.before.before.before.before.before.before.before.before.before.before in (s.requires.0.ready-a, s.requires.1.0.edges, omega (arith, c.before.if1.true, s.requires.1.0.end))
+    let s = c.before.before.before.before.before.before.before.before.before.before.before.before.before in (s.requires.0.ready_a, s.requires.1.0.edges, omega (arith, c.before.if1.true, s.requires.1.0.end))
 
 mul-from : tie.Need-overflow-mul-from invariant-loop decreases-loop
 mul-from c =
@@ -94,7 +94,7 @@ find-row-requires c κs =
     let q = s.requires.1.0 in
     let b = other s in
     rw (c.before.before.before.row_at.ensures, rest_all 768 s.args.ends.now) (
-      (s.requires.0.ready-b, s.requires.0.passed_b, row-present (one s) b l.r (passed (one s) s.requires.0.passed-a) (passed b s.requires.0.passed_b)),
+      (s.requires.0.ready_b, s.requires.0.passed_b, row_present (one s) b l.r (passed (one s) s.requires.0.passed_a) (passed b s.requires.0.passed_b)),
       ((q.small, q.other), (boxed s l.r l.invariant.0 c.before.before.before.before.before.if1.true, among s l.r l.invariant.0 c.before.before.before.before.before.if1.true, omega (arith, l.invariant.4.starts l.r (omega arith), l.invariant.4.room), omega (arith, l.invariant.3, s.requires.1.1.1.0.2))),
     )
 
@@ -107,8 +107,8 @@ enum_told c = search rules
 same_length : tie.Need-same-length invariant-loop decreases-loop
 same_length c = c.before.before.before.before.before.before.before.before.before.before.before.before.loop.invariant.2
 
-same-length-2 : tie.Need-same-length-2 invariant-loop decreases-loop
-same-length-2 c =
+same_length_2 : tie.Need-same-length-2 invariant-loop decreases-loop
+same_length_2 c =
     c.before.before.before.before.find-row.ensures.1 ∙ c.before.before.before.before.before.before.before.before.before.before.before.before.loop.invariant.3
 
 returns : tie.Need-returns invariant-loop decreases-loop
@@ -120,8 +120,8 @@ returns c =
     let from = get_or l.first l.r 0 in
     let new = x.new.1.1.1.1.1.1.1.1.0 in
     let g = added s l.r l.invariant.0 t l.crossed new from c.before.before.before.before.before.before.before.before.row_at.result x.result c.before.before.before.before.before.before.before.before.row_at.ensures x.ensures.0 in
-    let full = subst (Added l.crossed from (of-A s l.r) new) c.enum_told.given.1 g in
-    (omega (arith, full, l.invariant.4.starts l.r (omega arith), below_next (of-A s) l.r, below-within (of-A s) (l.r + 1) s.args.search.end (omega (arith, t))), (l.invariant.2, x.ensures.1 ∙ l.invariant.3))
+    let full = subst (Added l.crossed from (of_A s l.r) new) c.enum_told.given.1 g in
+    (omega (arith, full, l.invariant.4.starts l.r (omega arith), below_next (of_A s) l.r, below_within (of_A s) (l.r + 1) s.args.search.end (omega (arith, t))), (l.invariant.2, x.ensures.1 ∙ l.invariant.3))
 
 cast-first : tie.Need-overflow-cast-first invariant-loop decreases-loop
 cast-first c =
@@ -132,7 +132,7 @@ cast-first c =
     let from = get_or l.first l.r 0 in
     let new = x.new.1.1.1.1.1.1.1.1.0 in
     let g = added s l.r l.invariant.0 t l.crossed new from c.before.before.before.before.before.before.before.before.before.row_at.result x.result c.before.before.before.before.before.before.before.before.before.row_at.ensures x.ensures.0 in
-    let h = subst (Added l.crossed from (of-A s l.r) new) c.before.next.given.1 g in
+    let h = subst (Added l.crossed from (of_A s l.r) new) c.before.next.given.1 g in
     record { fits = omega (arith, h.room, x.ensures.1, l.invariant.3, s.requires.1.1.1.0.2) }
 
 add-first : tie.Need-overflow-add-first invariant-loop decreases-loop
@@ -169,12 +169,12 @@ loop-again c =
     let from = get_or l.first l.r 0 in
     let new = x.new.1.1.1.1.1.1.1.1.0 in
     let g = added s l.r l.invariant.0 t l.crossed new from c.before.before.before.before.before.before.before.before.before.row_at.result x.result c.before.before.before.before.before.before.before.before.before.row_at.ensures x.ensures.0 in
-    let h = subst (Added l.crossed from (of-A s l.r) new) c.before.next.given.1 g in (
+    let h = subst (Added l.crossed from (of_A s l.r) new) c.before.next.given.1 g in (
       omega (arith, l.invariant.0),
       omega (arith, t),
       length-set l.first (l.r + 1) c.before.next.given.0.0 ∙ l.invariant.2,
       x.ensures.1 ∙ l.invariant.3,
-      (listing-next (of-A s) l.r l.first (omega (arith, t, l.invariant.2, s.requires.1.1.1.0.0)) refl l.invariant.4 h).1,
+      (listing_next (of_A s) l.r l.first (omega (arith, t, l.invariant.2, s.requires.1.1.1.0.0)) refl l.invariant.4 h).1,
     )
 
 mul-t29 : tie.Need-overflow-mul-t29 invariant-loop decreases-loop
@@ -197,13 +197,13 @@ same-length-3 c = c.before.before.before.loop.invariant.2
 same-length-4 : tie.Need-same-length-4 invariant-loop decreases-loop
 same-length-4 c = c.before.before.before.loop.invariant.3
 
-returns-2 : tie.Need-returns-2 invariant-loop decreases-loop
-returns-2 c =
+returns_2 : tie.Need-returns-2 invariant-loop decreases-loop
+returns_2 c =
     let s = c.before.before.before.before.before.before.before.before.before.before.before.before.before in
     let l = c.before.before.before.loop in
     let q = le_antisymm l.invariant.1 c.before.if1.false in
-    let h = subst (λ r. Listing (of-A s) r l.first l.crossed) q l.invariant.4 in
-    ((l.invariant.4.starts l.r (omega arith) ∙ ap (λ r. length (below (of-A s) r)) q, h), (l.invariant.2, l.invariant.3))
+    let h = subst (λ r. Listing (of_A s) r l.first l.crossed) q l.invariant.4 in
+    ((l.invariant.4.starts l.r (omega arith) ∙ ap (λ r. length (below (of_A s) r)) q, h), (l.invariant.2, l.invariant.3))
 
 pub find-rows-spec : {M : Type 1} → statement M
 find-rows-spec =
@@ -224,7 +224,7 @@ find-rows-spec =
     enum-known-next
     enum_told
     same_length
-    same-length-2
+    same_length_2
     returns
     cast-first
     add-first
@@ -238,4 +238,4 @@ find-rows-spec =
     cast-t32
     same-length-3
     same-length-4
-    returns-2)
+    returns_2)

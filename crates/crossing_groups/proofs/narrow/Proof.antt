@@ -17,8 +17,8 @@ narrow-requires c κs = search rules
 same_length : tie.Need-same-length
 same_length c = search rules
 
-returns-2 : tie.Need-returns-2
-returns-2 c = let e = sym c.before.before.before.before.before.apart.ensures ∙ c.before.before.before.before.if1.false in rw e c.before.before.narrow.ensures
+returns_2 : tie.Need-returns-2
+returns_2 c = let e = sym c.before.before.before.before.before.apart.ensures ∙ c.before.before.before.before.if1.false in rw e c.before.before.narrow.ensures
 
 pub narrow-spec : {M : Type 1} → statement M
-narrow-spec = tie.close (tie.spec apart-requires returns narrow-requires same_length returns-2)
+narrow-spec = tie.close (tie.spec apart-requires returns narrow-requires same_length returns_2)

@@ -6,7 +6,7 @@ use native.Mathlib.Nat.{le_antisymm}
 use Rattle.solids.specs.Solids.{solid}
 use Rattle.bounds.specs.declared.Bounds.{Bounds}
 use Rattle.bounds.specs.Words.{joined, span}
-use Rattle.bounds.proofs.Things.{span-next}
+use Rattle.bounds.proofs.Things.{span_next}
 use Rattle.crossing_rows.specs.Words.{round, row_of}
 use borrow.Author.Rules.{rules}
 use Rattle.crossing_groups.proofs.round_rows.Statement.{statement}
@@ -49,7 +49,7 @@ loop-again c =
     let s = c.before.before.before.before.before.before.before.before.before.before in
     let l = c.before.before.before.before.before.loop in
     let box : ℕ → Bounds = λ i. round (row_of (solid s.args.ap.now s.args.ac.now) i) in
-    (omega (arith, l.invariant.0), omega (arith, c.before.before.before.if1.true), c.joined.ensures ∙ ap₂ joined l.invariant.2 (c.before.round.ensures ∙ ap round c.before.before.row_at.ensures) ∙ sym (span-next box s.args.search.begin l.r l.invariant.0))
+    (omega (arith, l.invariant.0), omega (arith, c.before.before.before.if1.true), c.joined.ensures ∙ ap₂ joined l.invariant.2 (c.before.round.ensures ∙ ap round c.before.before.row_at.ensures) ∙ sym (span_next box s.args.search.begin l.r l.invariant.0))
 
 returns : tie.Need-returns invariant-loop decreases-loop
 returns c =

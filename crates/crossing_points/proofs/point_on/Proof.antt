@@ -1,6 +1,6 @@
 -- `point_on` meets its contract, variant by variant.
 use mathlib.Core.Logic.{⊎_elim}
-use Rattle.crossing_points.specs.Words.{width, point-on}
+use Rattle.crossing_points.specs.Words.{width, point_on}
 use borrow.Author.Rules.{rules}
 use Rattle.crossing_points.proofs.point_on.Statement.{statement}
 use Rattle.crossing_points.proofs.point_on.Tie as tie
@@ -33,7 +33,7 @@ points-requires : tie.Need-points-requires
 points-requires c κs = search rules
 
 returns : tie.Need-returns
-unfolding point-on
+unfolding point_on
 returns c =
     let m = c.before.before.match in
     rw c.before.points.ensures (⊎_elim

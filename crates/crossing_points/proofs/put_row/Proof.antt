@@ -2,14 +2,14 @@
 use Prim.Native.Nat.{◌-◌}
 use native.Mathlib.Omega.{arith}
 use Rattle.solids.specs.Solids.{solid}
-use Rattle.crossing_points.specs.Words.{point-on}
-use Rattle.crossing_points.proofs.Stretches.{Stretched, stretched-none, stretched-long, stretched-room, stretched-next, stretched-all}
+use Rattle.crossing_points.specs.Words.{point_on}
+use Rattle.crossing_points.proofs.Stretches.{Stretched, stretched_none, stretched_long, stretched_room, stretched_next, stretched_all}
 use borrow.Author.Rules.{rules}
 use Rattle.crossing_points.proofs.put_row.Statement.{statement}
 use Rattle.crossing_points.proofs.put_row.Tie as tie
 
 abbrev invariant-loop : tie.invariant-loop
-invariant-loop row bp bc be crossed from to list₀ at next₀ k₀ list next k = Stretched (point-on row (solid bp bc)) crossed from to list₀ list at next k
+invariant-loop row bp bc be crossed from to list₀ at next₀ k₀ list next k = Stretched (point_on row (solid bp bc)) crossed from to list₀ list at next k
 
 abbrev decreases-loop : tie.decreases-loop
 decreases-loop row bp bc be crossed from to list₀ at next₀ k₀ list next k = to - k
@@ -17,7 +17,7 @@ decreases-loop row bp bc be crossed from to list₀ at next₀ k₀ list next k 
 loop-holds : tie.Need-loop-init invariant-loop decreases-loop
 loop-holds c =
     let a = c.before.before.before.before.before.args in
-    stretched-none (point-on a.row (solid a.bp.now a.bc.now)) a.crossed.now a.from a.to a.list.now a.at
+    stretched_none (point_on a.row (solid a.bp.now a.bc.now)) a.crossed.now a.from a.to a.list.now a.at
 
 mul-column : tie.Need-overflow-mul-column invariant-loop decreases-loop
 mul-column c = search rules
@@ -38,13 +38,13 @@ put-point-requires : tie.Need-put-point-requires invariant-loop decreases-loop
 put-point-requires c κs =
     let t = c.before.before.before.before in
     let s = t.before.before.before.before.before.before.before in
-    stretched-room t.before.loop.invariant t.loop-test.true s.requires.1.1
+    stretched_room t.before.loop.invariant t.loop-test.true s.requires.1.1
 
 add-next : tie.Need-overflow-add-next invariant-loop decreases-loop
 add-next c =
     let t = c.before.before.before.before.before.before.before in
     let s = t.before.before.before.before.before.before.before in
-    omega (arith, stretched-room t.before.loop.invariant t.loop-test.true s.requires.1.1, stretched-long t.before.loop.invariant)
+    omega (arith, stretched_room t.before.loop.invariant t.loop-test.true s.requires.1.1, stretched_long t.before.loop.invariant)
 
 add-k : tie.Need-overflow-add-k invariant-loop decreases-loop
 add-k c = search rules
@@ -55,18 +55,18 @@ loop-less c = search rules
 loop-again : tie.Need-loop-preserved invariant-loop decreases-loop
 loop-again c =
     let t = c.before.before.before.before.before.before.before in
-    stretched-next
+    stretched_next
     t.before.loop.invariant
     t.loop-test.true
     c.before.before.before.before.before.column.ensures
-    c.before.before.before.before.point-on.ensures
+    c.before.before.before.before.point_on.ensures
     c.before.before.put-point.ensures
 
 same_length : tie.Need-same-length invariant-loop decreases-loop
-same_length c = stretched-long c.before.loop.invariant
+same_length c = stretched_long c.before.loop.invariant
 
 returns : tie.Need-returns invariant-loop decreases-loop
-returns c = stretched-all c.before.loop.invariant c.loop-test.false
+returns c = stretched_all c.before.loop.invariant c.loop-test.false
 
 pub put-row-spec : {M : Type 1} → statement M
 put-row-spec =

@@ -6,7 +6,7 @@ use lib.ListN.{length, take, drop, length-drop}
 use lib.Seq.{length-take-le, take_all}
 use Rattle.solids.specs.Solids.{solid, facets, edges}
 use Rattle.layouts.specs.declared.Sizes.{Sizes}
-use Rattle.crossing_points.proofs.Rowwise.{row-columns, Rowed, rowed-none, rowed-long, rowed-room, rowed-next, rowed-all}
+use Rattle.crossing_points.proofs.Rowwise.{row_columns, Rowed, rowed_none, rowed_long, rowed_room, rowed_next, rowed_all}
 use borrow.Author.Rules.{rules}
 use Rattle.crossing_points.proofs.put_rows.Statement.{statement}
 use Rattle.crossing_points.proofs.put_rows.Tie as tie
@@ -40,7 +40,7 @@ add-rows c =
 loop-holds : tie.Need-loop-init invariant-loop decreases-loop
 loop-holds c =
     let a = c.before.before.before.before.before.before.before.before.before.before.before.args in
-    rowed-none (solid a.ap.now a.ac.now) (solid a.bp.now a.bc.now) a.first.now a.crossed.now a.list.now a.at
+    rowed_none (solid a.ap.now a.ac.now) (solid a.bp.now a.bc.now) a.first.now a.crossed.now a.list.now a.at
 
 row-at-requires : tie.Need-row-at-requires invariant-loop decreases-loop
 row-at-requires c κs =
@@ -82,7 +82,7 @@ put-row-requires c κs =
     let q = c.before.before.before.row_at.ensures in
     let whole : take (length a.ends.now - 768) (drop 768 a.ends.now) ≡ drop 768 a.ends.now =
     take_all (length a.ends.now - 768) (drop 768 a.ends.now) (rw length-drop (omega arith)) in
-    (rw whole s.requires.0.1, (row-columns (solid a.ap.now a.ac.now) (solid a.bp.now a.bc.now) a.first.now a.crossed.now e s.requires.1.0.1 h q, rowed-room t.before.loop.invariant (rw e at h) q s.requires.1.1))
+    (rw whole s.requires.0.1, (row_columns (solid a.ap.now a.ac.now) (solid a.bp.now a.bc.now) a.first.now a.crossed.now e s.requires.1.0.1 h q, rowed_room t.before.loop.invariant (rw e at h) q s.requires.1.1))
 
 add_r : tie.Need-overflow-add-r invariant-loop decreases-loop
 add_r c =
@@ -99,15 +99,15 @@ loop-again c =
     let t = c.before.before.before.before.before.before.before in
     let s = t.before.before.before.before.before.before.before.before.before.before.before.before.before in
     let p = c.before.before.put-row.ensures in
-    rowed-next t.before.loop.invariant (rw s.requires.1.0.0 at t.loop-test.true) c.before.before.before.before.before.before.row_at.ensures p.0 p.1
+    rowed_next t.before.loop.invariant (rw s.requires.1.0.0 at t.loop-test.true) c.before.before.before.before.before.before.row_at.ensures p.0 p.1
 
 same_length : tie.Need-same-length invariant-loop decreases-loop
-same_length c = rowed-long c.before.loop.invariant
+same_length c = rowed_long c.before.loop.invariant
 
 returns : tie.Need-returns invariant-loop decreases-loop
 returns c =
     let s = c.before.before.before.before.before.before.before.before.before.before.before.before.before in
-    rowed-all c.before.loop.invariant (rw s.requires.1.0.0 at c.loop-test.false)
+    rowed_all c.before.loop.invariant (rw s.requires.1.0.0 at c.loop-test.false)
 
 pub put-rows-spec : {M : Type 1} → statement M
 put-rows-spec =

@@ -8,14 +8,14 @@ use lib.ListN.{length-set}
 use mir.Syntax.{w32}
 use mir.Val.{to_z, of_z}
 use Rattle.list_words.specs.Lists.{nonzero}
-use Rattle.list_words.proofs.Widths.{back-32}
-use Rattle.crossings.proofs.Fits.{fits, zero-not, not-zero}
+use Rattle.list_words.proofs.Widths.{back_32}
+use Rattle.crossings.proofs.Fits.{fits, zero_not, not_zero}
 use Rattle.solids.specs.Solids.{solid}
 use Rattle.layouts.specs.Words.{packed}
 use Rattle.crossing_rows.specs.Words.{across, count_of}
-use Rattle.crossing_rows.proofs.Rowwise.{many-few}
+use Rattle.crossing_rows.proofs.Rowwise.{many_few}
 use Rattle.list_words.proofs.Integers.{scaled}
-use Rattle.crossing_rows.proofs.Listings.{crossing-one, crossing-zero, behind-none, behind-packed}
+use Rattle.crossing_rows.proofs.Listings.{crossing_one, crossing_zero, behind_none, behind_packed}
 use borrow.Author.Rules.{rules}
 use Rattle.crossing_rows.proofs.add.Statement.{statement}
 use Rattle.crossing_rows.proofs.add.Tie as tie
@@ -29,16 +29,16 @@ module _ (c : tie.Start) (r : ℤ) (few : nat_abs r ≤ 2) where
   product_small = scaled 2 sign r c.requires.1.0 few
 
   product : to_z w32 (of_z w32 sign) *ℤ to_z w32 (of_z w32 r) ≡ sign *ℤ r
-  product = rw (back-32 sign (omega (arith, c.requires.1.0)), back-32 r (omega (arith, few)))
+  product = rw (back_32 sign (omega (arith, c.requires.1.0)), back_32 r (omega (arith, few)))
 
   none : of_z w32 (to_z w32 (of_z w32 sign) *ℤ to_z w32 (of_z w32 r)) ≡ 0 → nonzero (sign *ℤ r) ≡ false
-  none e = zero-not (sign *ℤ r) (fits (sign *ℤ r) (omega (arith, product_small))) (ap (of_z w32) (sym product) ∙ e)
+  none e = zero_not (sign *ℤ r) (fits (sign *ℤ r) (omega (arith, product_small))) (ap (of_z w32) (sym product) ∙ e)
 
   some : (of_z w32 (to_z w32 (of_z w32 sign) *ℤ to_z w32 (of_z w32 r)) ≡ 0 → ⊥) → nonzero (sign *ℤ r) ≡ true
-  some h = not-zero (sign *ℤ r) (λ e. h (ap (of_z w32) product ∙ e))
+  some h = not_zero (sign *ℤ r) (λ e. h (ap (of_z w32) product ∙ e))
 
   stored : to_z w32 (of_z w32 (to_z w32 (of_z w32 sign) *ℤ to_z w32 (of_z w32 r))) ≡ sign *ℤ r
-  stored = ap (λ x. to_z w32 (of_z w32 x)) product ∙ back-32 (sign *ℤ r) (omega (arith, product_small))
+  stored = ap (λ x. to_z w32 (of_z w32 x)) product ∙ back_32 (sign *ℤ r) (omega (arith, product_small))
 
 abbrev of_row : tie.Start → ℕ → ℤ
 of_row c = count_of c.args.row (solid c.args.bp.now c.args.bc.now)
@@ -57,21 +57,21 @@ returns c =
     let s = c.before.before.before.before.before.before in
     let r = c.before.count_of in
     let z = subst (λ x. nonzero (s.args.sign *ℤ x) ≡ false) r.ensures.0 (none s r.result r.ensures.1 c.if1.true) in
-    (rw (crossing-zero s.args.sign (of_row s) s.args.column z) (behind-none s.args.crossed.now s.args.k s.requires.1.1), refl)
+    (rw (crossing_zero s.args.sign (of_row s) s.args.column z) (behind_none s.args.crossed.now s.args.k s.requires.1.1), refl)
 
-returns-2 : tie.Need-returns-2
-returns-2 c =
+returns_2 : tie.Need-returns-2
+returns_2 c =
     let s = c.before.before.before.before.before.before.before in
     let r = c.before.before.count_of in
     let z = subst (λ x. nonzero (s.args.sign *ℤ x) ≡ true) r.ensures.0 (some s r.result r.ensures.1 c.before.if1.false) in
-    (rw (crossing-one s.args.sign (of_row s) s.args.column z) (omega (arith, c.if2.true)), refl)
+    (rw (crossing_one s.args.sign (of_row s) s.args.column z) (omega (arith, c.if2.true)), refl)
 
 packed-requires : tie.Need-packed-requires
 packed-requires c κs =
     let s = c.before.before.before.before.before.before.before in
     let r = c.before.before.count_of in
     rw (stored s r.result r.ensures.1)
-    (omega (arith, s.requires.0.1, many-few s.requires.0.0 (across s.args.row)), product_small s r.result r.ensures.1, some s r.result r.ensures.1 c.before.if1.false)
+    (omega (arith, s.requires.0.1, many_few s.requires.0.0 (across s.args.row)), product_small s r.result r.ensures.1, some s r.result r.ensures.1 c.before.if1.false)
 
 mul-crossed : tie.Need-overflow-mul-crossed
 mul-crossed c = search rules
@@ -94,7 +94,7 @@ returns-3 c =
     let y = some s r.result r.ensures.1 c.before.before.if1.false in
     let e = c.packed.ensures ∙ ap (λ x. packed (s.args.column, x)) (stored s r.result r.ensures.1) in
     let z = subst (λ x. nonzero (s.args.sign *ℤ x) ≡ true) r.ensures.0 y in
-    (rw (e, crossing-one s.args.sign (of_row s) s.args.column z, ← r.ensures.0) (behind-packed l s.args.k s.args.column n c.before.if2.false (product_small s r.result r.ensures.1) y), length-set l s.args.k c.packed.result)
+    (rw (e, crossing_one s.args.sign (of_row s) s.args.column z, ← r.ensures.0) (behind_packed l s.args.k s.args.column n c.before.if2.false (product_small s r.result r.ensures.1) y), length-set l s.args.k c.packed.result)
 
 pub add_spec : {M : Type 1} → statement M
 add_spec =
@@ -103,7 +103,7 @@ add_spec =
     count-of-requires
     mul-n
     returns
-    returns-2
+    returns_2
     packed-requires
     mul-crossed
     slice-write-crossed

@@ -40,12 +40,12 @@ returns c =
     let h : to_z w32 (of_z w32 r) ≡ r = search rules in
     rw (h, c.before.before.before.row.given.1) (c.ef.ensures.0 ∙ ap (λ f. count (ef c.before.before.before.row.given.0.0 f)) c.before.facet.ensures, c.ef.ensures.1)
 
-returns-2 : tie.Need-returns-2
+returns_2 : tie.Need-returns-2
 unfolding count_of
-returns-2 c =
+returns_2 c =
     let r = c.fe.result in
     let h : to_z w32 (of_z w32 r) ≡ r = search rules in
     rw (h, c.before.before.before.row2.given.1) (c.fe.ensures.0 ∙ ap (λ e. count (fe c.before.before.before.row2.given.0.0 e)) c.before.edge_at.ensures, c.fe.ensures.1)
 
 pub count-of-spec : {M : Type 1} → statement M
-count-of-spec = tie.close (tie.spec enum-known-row facet-requires ef-requires enum-known-row-2 edge-at-requires fe-requires returns returns-2)
+count-of-spec = tie.close (tie.spec enum-known-row facet-requires ef-requires enum-known-row-2 edge-at-requires fe-requires returns returns_2)

@@ -16,10 +16,10 @@ round-facet-requires : tie.Need-round-facet-requires
 round-facet-requires c κs = search rules
 
 returns : tie.Need-returns
-returns c = rw c.before.before.row.given.1 c.round-edge.ensures
+returns c = rw c.before.before.row.given.1 c.round_edge.ensures
 
-returns-2 : tie.Need-returns-2
-returns-2 c = rw c.before.before.row2.given.1 c.round-facet.ensures
+returns_2 : tie.Need-returns-2
+returns_2 c = rw c.before.before.row2.given.1 c.round_facet.ensures
 
 pub round-spec : {M : Type 1} → statement M
-round-spec = tie.close (tie.spec enum-known-row round-edge-requires enum-known-row-2 round-facet-requires returns returns-2)
+round-spec = tie.close (tie.spec enum-known-row round-edge-requires enum-known-row-2 round-facet-requires returns returns_2)

@@ -23,12 +23,12 @@ returns c =
     let n = length (edges (solid s.args.ap.now s.args.ac.now)) in
     rw (lt-ltb s.args.r n (omega (arith, c.before.if1.true, s.requires.1))) (ap OfEdge c.edge_at.ensures)
 
-returns-2 : tie.Need-returns-2
+returns_2 : tie.Need-returns-2
 unfolding row_of
-returns-2 c =
+returns_2 c =
     let s = c.before.before.before.before.before in
     let n = length (edges (solid s.args.ap.now s.args.ac.now)) in
     rw (le-ltb s.args.r n (omega (arith, c.before.if1.false, s.requires.1)), ← s.requires.1) (ap OfFacet c.facet.ensures)
 
 pub row-at-spec : {M : Type 1} → statement M
-row-at-spec = tie.close (tie.spec edge-at-requires facet-requires returns returns-2)
+row-at-spec = tie.close (tie.spec edge-at-requires facet-requires returns returns_2)

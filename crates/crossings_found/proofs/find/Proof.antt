@@ -7,19 +7,19 @@ use lib.IntN.{ℤ}
 use lib.ListN.{length, length-set}
 use mir.Syntax.{w32}
 use mir.Val.{to_z, of_z}
-use Rattle.list_words.proofs.Widths.{back-32}
+use Rattle.list_words.proofs.Widths.{back_32}
 use Rattle.solids.specs.Solids.{Solid, solid, edges}
 use Rattle.layouts.specs.declared.Sizes.{Sizes}
 use Rattle.bounds.specs.declared.Bounds.{Bounds}
 use Rattle.bounds.specs.declared.Thing.TheVariants.{Edges, Facets}
 use Rattle.bounds.specs.Words.{whole}
-use Rattle.bounds.proofs.Things.{all-hull}
+use Rattle.bounds.proofs.Things.{all_hull}
 use Rattle.crossing_rows.specs.declared.Listed.{Listed}
 use Rattle.crossing_rows.specs.declared.Listed.TheVariants.{Found, Full}
 use Rattle.crossing_rows.specs.Words.{row, rows, Answered}
 use Rattle.crossing_groups.specs.Words.{Both, Searching, Reached}
-use Rattle.crossing_rows.proofs.Listings.{below, below-within, listing_none}
-use Rattle.crossing_rows.proofs.Rowwise.{across-edge, across-facet}
+use Rattle.crossing_rows.proofs.Listings.{below, below_within, listing_none}
+use Rattle.crossing_rows.proofs.Rowwise.{across_edge, across_facet}
 use borrow.Author.Rules.{rules}
 use Rattle.crossings_found.proofs.find.Statement.{statement}
 use Rattle.crossings_found.proofs.find.Tie as tie
@@ -44,45 +44,45 @@ module _ (s : tie.Start) where
   sign = to_z w32 (of_z w32 s.args.sign)
 
   back : sign ≡ s.args.sign
-  back = back-32 s.args.sign (omega (arith, s.pre.1.1.0.0))
+  back = back_32 s.args.sign (omega (arith, s.pre.1.1.0.0))
 
-  abbrev of-A : ℕ → List (ℕ × ℤ)
-  of-A = row sign one other
+  abbrev of_A : ℕ → List (ℕ × ℤ)
+  of_A = row sign one other
 
   both : Both s.args.ap.now s.args.ac.now s.args.bp.now s.args.bc.now s.args.ends.now
-  both = record { ready-a = s.pre.0.0; ready-b = s.pre.0.1; long = s.pre.0.2; passed-a = s.pre.1.0.0; passed_b = s.pre.1.0.1 }
+  both = record { ready_a = s.pre.0.0; ready_b = s.pre.0.1; long = s.pre.0.2; passed_a = s.pre.1.0.0; passed_b = s.pre.1.0.1 }
 
-  of-edges : z.ea ≡ length (edges one)
-  of-edges = ap (λ (z : Sizes). z.ea) s.pre.1.1.1.0.0
+  of_edges : z.ea ≡ length (edges one)
+  of_edges = ap (λ (z : Sizes). z.ea) s.pre.1.1.1.0.0
 
-  of-rows : z.ea + z.fa ≡ rows one other
-  of-rows = ap (λ (z : Sizes). z.ea + z.fa) s.pre.1.1.1.0.0
+  of_rows : z.ea + z.fa ≡ rows one other
+  of_rows = ap (λ (z : Sizes). z.ea + z.fa) s.pre.1.1.1.0.0
 
   module _ (q : Bounds) (d : q ≡ whole other) where
-    rows-of-edges : Searching (record { sign = sign; other = q; thing = Facets; many = z.fb; edges = z.ea; begin = 0; end = z.ea }) one other
-    rows-of-edges =
+    rows_of_edges : Searching (record { sign = sign; other = q; thing = Facets; many = z.fb; edges = z.ea; begin = 0; end = z.ea }) one other
+    rows_of_edges =
         record {
           small = rw back s.pre.1.1.0.0;
           signed = rw back s.pre.1.1.0.1;
           other = d;
           many = ap (λ (z : Sizes). z.fb) s.pre.1.1.1.0.0;
-          edges = of-edges;
+          edges = of_edges;
           begin = omega arith;
-          end = omega (arith, of-rows);
-          kind = λ r from to. across-edge one other r (omega (arith, to, of-edges));
+          end = omega (arith, of_rows);
+          kind = λ r from to. across_edge one other r (omega (arith, to, of_edges));
         }
 
-    rows-of-facets : Searching (record { sign = sign; other = q; thing = Edges; many = z.eb; edges = z.ea; begin = z.ea; end = z.ea + z.fa }) one other
-    rows-of-facets =
+    rows_of_facets : Searching (record { sign = sign; other = q; thing = Edges; many = z.eb; edges = z.ea; begin = z.ea; end = z.ea + z.fa }) one other
+    rows_of_facets =
         record {
           small = rw back s.pre.1.1.0.0;
           signed = rw back s.pre.1.1.0.1;
           other = d;
           many = ap (λ (z : Sizes). z.eb) s.pre.1.1.1.0.0;
-          edges = of-edges;
+          edges = of_edges;
           begin = omega arith;
-          end = omega (arith, of-rows);
-          kind = λ r from to. across-facet one other r (omega (arith, from, of-edges));
+          end = omega (arith, of_rows);
+          kind = λ r from to. across_facet one other r (omega (arith, from, of_edges));
         }
 
 slice-write-first : tie.Need-slice-write-first
@@ -101,12 +101,12 @@ find-kind-requires c κs =
     let long = length-set s.args.first.now 0 0 in (
       both s,
       (
-        rows-of-edges s c.before.before.hull2.result (c.before.before.hull2.ensures ∙ all-hull s.args.bp.now),
+        rows_of_edges s c.before.before.hull2.result (c.before.before.hull2.ensures ∙ all_hull s.args.bp.now),
         (
-          c.before.before.before.hull.ensures ∙ all-hull s.args.ap.now,
+          c.before.before.before.hull.ensures ∙ all_hull s.args.ap.now,
           (
             (omega (arith, room.0, long), omega (arith, room.1, long), room.2),
-            listing_none (of-A s) s.args.first.now s.args.crossed.now (omega (arith, room.0)),
+            listing_none (of_A s) s.args.first.now s.args.crossed.now (omega (arith, room.0)),
           ),
         ),
       ),
@@ -122,8 +122,8 @@ same_length : tie.Need-same-length
 same_length c =
     c.before.before.before.before.before.before.find-kind.ensures.1.0 ∙ length-set c.before.before.before.before.before.before.before.before.before.before.before.before.before.before.before.before.before.before.args.first.now 0 0
 
-same-length-2 : tie.Need-same-length-2
-same-length-2 c = search rules
+same_length_2 : tie.Need-same-length-2
+same_length_2 c = search rules
 
 returns : tie.Need-returns
 returns c =
@@ -131,7 +131,7 @@ returns c =
     let x = c.before.before.before.before.before.before.find-kind in
     let new = x.new.1.1.1.1.1.1.1.1.0 in
     let h = subst (Reached (sign s) (one s) (other s) (z s).ea x.new.1.1.1.1.1.1.1.0 new) c.enum_told.given.1 x.ensures.0 in
-    let g : length new < length (below (of-A s) (rows (one s) (other s))) = omega (arith, h, below-within (of-A s) (z s).ea (rows (one s) (other s)) (omega (arith, of-rows s))) in
+    let g : length new < length (below (of_A s) (rows (one s) (other s))) = omega (arith, h, below_within (of_A s) (z s).ea (rows (one s) (other s)) (omega (arith, of_rows s))) in
     (subst (λ x. length new < length (below (row x (one s) (other s)) (rows (one s) (other s)))) (back s) g, (x.ensures.1.0 ∙ length-set s.args.first.now 0 0, x.ensures.1.1))
 
 add-t16 : tie.Need-overflow-add-t16
@@ -149,8 +149,8 @@ find-kind-requires-2 c κs =
     let h = subst (Reached (sign s) (one s) (other s) (z s).ea first crossed) c.before.before.before.before.total.given.1 x.ensures.0 in (
       both s,
       (
-        rows-of-facets s c.before.before.before.before.before.before.before.before.before.before.before.before.before.hull2.result (c.before.before.before.before.before.before.before.before.before.before.before.before.before.hull2.ensures ∙ all-hull s.args.bp.now),
-        (c.before.before.before.before.before.before.before.before.before.before.before.before.before.before.hull.ensures ∙ all-hull s.args.ap.now, ((omega (arith, room.0, long), omega (arith, room.1, long), omega (arith, room.2, x.ensures.1.1)), h.1)),
+        rows_of_facets s c.before.before.before.before.before.before.before.before.before.before.before.before.before.hull2.result (c.before.before.before.before.before.before.before.before.before.before.before.before.before.hull2.ensures ∙ all_hull s.args.bp.now),
+        (c.before.before.before.before.before.before.before.before.before.before.before.before.before.before.hull.ensures ∙ all_hull s.args.ap.now, ((omega (arith, room.0, long), omega (arith, room.1, long), omega (arith, room.2, x.ensures.1.1)), h.1)),
       ),
     )
 
@@ -166,14 +166,14 @@ same-length-4 : tie.Need-same-length-4
 same-length-4 c =
     c.before.before.before.before.find-kind2.ensures.1.1 ∙ c.before.before.before.before.before.before.before.before.before.before.before.before.before.before.before.find-kind.ensures.1.1
 
-returns-2 : tie.Need-returns-2
-returns-2 c =
+returns_2 : tie.Need-returns-2
+returns_2 c =
     let s = c.before.before.before.before.before.before.before.before.before.before.before.before.before.before.before.before.before.before.before.before.before.before.before.before.before.before.before in
     let x = c.before.before.before.before.before.before.before.before.before.before.before.before.before.before.before.find-kind in
     let y = c.before.before.before.before.find-kind2 in
     let first = y.new.1.1.1.1.1.1.1.0 in
     let crossed = y.new.1.1.1.1.1.1.1.1.0 in
-    let h = subst (λ n. Reached (sign s) (one s) (other s) n first crossed y.result) (of-rows s) y.ensures.0 in (
+    let h = subst (λ n. Reached (sign s) (one s) (other s) n first crossed y.result) (of_rows s) y.ensures.0 in (
       answered s.args.sign (one s) (other s) first crossed y.result (subst (λ x. Reached x (one s) (other s) (rows (one s) (other s)) first crossed y.result) (back s) h),
       (y.ensures.1.0 ∙ x.ensures.1.0 ∙ length-set s.args.first.now 0 0, y.ensures.1.1 ∙ x.ensures.1.1),
     )
@@ -189,10 +189,10 @@ find_spec =
     enum-known-total
     enum_told
     same_length
-    same-length-2
+    same_length_2
     returns
     add-t16
     find-kind-requires-2
     same-length-3
     same-length-4
-    returns-2)
+    returns_2)

@@ -12,13 +12,13 @@ use Rattle.solids.proofs.Admitted.{passed}
 use Rattle.bounds.specs.declared.Far.TheVariants.{Apart}
 use Rattle.bounds.specs.Words.{many, box_of, Boxed, Among, Narrowed}
 use Rattle.bounds.proofs.Inside.{In}
-use Rattle.bounds.proofs.Listing.{among-all, narrowed-among}
+use Rattle.bounds.proofs.Listing.{among_all, narrowed_among}
 use Rattle.crossing_rows.specs.Words.{Lying, row_of}
 use Rattle.crossing_groups.specs.Words.{Enough, Offered}
 use Rattle.list_words.proofs.Places.{rest_all}
-use Rattle.crossing_rows.proofs.Rowwise.{many-few, row-whole}
-use Rattle.crossing_groups.proofs.Searches.{enough-near}
-use Rattle.crossings_found.proofs.Searches.{enough-all}
+use Rattle.crossing_rows.proofs.Rowwise.{many_few, row_whole}
+use Rattle.crossing_groups.proofs.Searches.{enough_near}
+use Rattle.crossings_found.proofs.Searches.{enough_all}
 use borrow.Author.Rules.{rules}
 use Rattle.crossings_found.proofs.find_kind.Statement.{statement}
 use Rattle.crossings_found.proofs.find_kind.Tie as tie
@@ -35,15 +35,15 @@ module _ (s : tie.Start) where
   offered h boxed =
       let q = s.pre.1.0 in
       let search = s.args.search in
-      let pa = passed one s.pre.0.passed-a in
+      let pa = passed one s.pre.0.passed_a in
       let pb = passed other s.pre.0.passed_b in
       let inside : (r : ℕ) → search.begin ≤ r → r < search.end → Lying (In s.args.own) (row_of one r) =
-      λ r from to. subst (λ p. Lying (In p) (row_of one r)) (sym s.pre.1.1.0) (row-whole one other r pa pb (omega (arith, to, q.end)))
+      λ r from to. subst (λ p. Lying (In p) (row_of one r)) (sym s.pre.1.1.0) (row_whole one other r pa pb (omega (arith, to, q.end)))
       in
       record {
         boxed = boxed;
-        among = narrowed-among h (subst (λ n. Among (up_to n) search.thing other) (sym q.many) (among-all (many-few s.pre.0.ready-b search.thing)));
-        enough = subst (Enough search one other) (sym h.front) (enough-near one other pa pb search q (up_to search.many) s.args.own inside (enough-all one other pa pb search q));
+        among = narrowed_among h (subst (λ n. Among (up_to n) search.thing other) (sym q.many) (among_all (many_few s.pre.0.ready_b search.thing)));
+        enough = subst (Enough search one other) (sym h.front) (enough_near one other pa pb search q (up_to search.many) s.args.own inside (enough_all one other pa pb search q));
       }
 
 sub-gather : tie.Need-overflow-sub-gather
@@ -65,9 +65,9 @@ gather-requires : tie.Need-gather-requires
 gather-requires c κs =
     let s = c.before.before.before.before.before.before.before.before.before.before in
     let q = s.requires.1.0 in
-    let few = many-few s.requires.0.ready-b s.args.search.thing in
+    let few = many_few s.requires.0.ready_b s.args.search.thing in
     rw (rest_all 768 s.args.ends.now)
-    ((s.requires.0.ready-b, q.many, omega (arith, q.many, few)), (omega (arith, q.many, few, length-replicate {A = ℕ} 384 0), omega (arith, q.many, few, length-replicate {A = Float} 2304 (of_bits binary64 0))))
+    ((s.requires.0.ready_b, q.many, omega (arith, q.many, few)), (omega (arith, q.many, few, length-replicate {A = ℕ} 384 0), omega (arith, q.many, few, length-replicate {A = Float} 2304 (of_bits binary64 0))))
 
 array-share-prefix-columns : tie.Need-array-share-prefix-columns
 array-share-prefix-columns c = search rules
@@ -100,8 +100,8 @@ find-groups-requires c κs =
 same_length : tie.Need-same-length
 same_length c = search rules
 
-same-length-2 : tie.Need-same-length-2
-same-length-2 c = search rules
+same_length_2 : tie.Need-same-length-2
+same_length_2 c = search rules
 
 returns : tie.Need-returns
 returns c = search rules
@@ -112,8 +112,8 @@ same-length-3 c = search rules
 same-length-4 : tie.Need-same-length-4
 same-length-4 c = search rules
 
-returns-2 : tie.Need-returns-2
-returns-2 c = search rules
+returns_2 : tie.Need-returns-2
+returns_2 c = search rules
 
 pub find-kind-spec : {M : Type 1} → statement M
 find-kind-spec =
@@ -132,8 +132,8 @@ find-kind-spec =
     slice-aggregate-find-groups
     find-groups-requires
     same_length
-    same-length-2
+    same_length_2
     returns
     same-length-3
     same-length-4
-    returns-2)
+    returns_2)

@@ -3,7 +3,7 @@ use native.Mathlib.Omega.{arith}
 use borrow.Author.Rules.{rules}
 use Rattle.crossings.specs.Crossings.{ee}
 use Rattle.gathering.proofs.Gathering.{none, one_more, one_less, all_of, sized}
-use Rattle.crossings.proofs.Sizes.{small-ee}
+use Rattle.crossings.proofs.Sizes.{small_ee}
 use Rattle.edge_facet.proofs.ee.Statement.{statement}
 use Rattle.edge_facet.proofs.ee.Tie as tie
 
@@ -60,7 +60,7 @@ returns c =
     let g2 = one_less g1 start-b.before.ev.ensures.0 start-b.against2.ensures.0 w2.with2.ensures.0 in
     let g3 = one_more g2 end-a.ve2.ensures.0 w3.with3.ensures.0 in
     let g4 = one_less g3 start-a.before.ve.ensures.0 start-a.against.ensures.0 w4.with4.ensures.0 in
-    sized (all_of g4 c.finish.ensures) (small-ee a.a a.b)
+    sized (all_of g4 c.finish.ensures) (small_ee a.a a.b)
 
 pub ee-spec : {M : Type 1} → statement M
 ee-spec =

@@ -2,8 +2,8 @@
 use native.Mathlib.Omega.{arith}
 use borrow.Author.Rules.{rules}
 use Rattle.crossings.specs.Crossings.{ef, ee}
-use Rattle.gathering.proofs.Gathering.{none, one_more, one_less, half-less, all_of, sized}
-use Rattle.crossings.proofs.Sizes.{two-ef}
+use Rattle.gathering.proofs.Gathering.{none, one_more, one_less, half_less, all_of, sized}
+use Rattle.crossings.proofs.Sizes.{two_ef}
 use Rattle.edge_facet.proofs.ef.Statement.{statement}
 use Rattle.edge_facet.proofs.ef.Tie as tie
 
@@ -70,12 +70,12 @@ returns c =
     let start = end.before.before in
     let a = start.before.args in
     let g0 = none w1.before.empty.ensures.0 in
-    let g1 = half-less g0 (ee a.e) a.f.rp a.f.r a.f.p rp.before.eh3.ensures.0 rp.against4.ensures.0 w1.with.ensures.0 in
-    let g2 = half-less g1 (ee a.e) a.f.qr a.f.q a.f.r qr.before.eh2.ensures.0 qr.against3.ensures.0 w2.with2.ensures.0 in
-    let g3 = half-less g2 (ee a.e) a.f.pq a.f.p a.f.q pq.before.eh.ensures.0 pq.against2.ensures.0 w3.with3.ensures.0 in
+    let g1 = half_less g0 (ee a.e) a.f.rp a.f.r a.f.p rp.before.eh3.ensures.0 rp.against4.ensures.0 w1.with.ensures.0 in
+    let g2 = half_less g1 (ee a.e) a.f.qr a.f.q a.f.r qr.before.eh2.ensures.0 qr.against3.ensures.0 w2.with2.ensures.0 in
+    let g3 = half_less g2 (ee a.e) a.f.pq a.f.p a.f.q pq.before.eh.ensures.0 pq.against2.ensures.0 w3.with3.ensures.0 in
     let g4 = one_less g3 end.before.vf2.ensures.0 end.against.ensures.0 w4.with4.ensures.0 in
     let g5 = one_more g4 start.vf.ensures.0 w5.with5.ensures.0 in
-    sized (all_of g5 c.finish.ensures) (two-ef a.e a.f)
+    sized (all_of g5 c.finish.ensures) (two_ef a.e a.f)
 
 pub ef-spec : {M : Type 1} → statement M
 ef-spec =

@@ -2,8 +2,8 @@
 use native.Mathlib.Omega.{arith}
 use borrow.Author.Rules.{rules}
 use Rattle.crossings.specs.Crossings.{fe, ee}
-use Rattle.gathering.proofs.Gathering.{none, one_more, one_less, half-less, all_of, sized}
-use Rattle.crossings.proofs.Sizes.{two-fe}
+use Rattle.gathering.proofs.Gathering.{none, one_more, one_less, half_less, all_of, sized}
+use Rattle.crossings.proofs.Sizes.{two_fe}
 use Rattle.edge_facet.proofs.fe.Statement.{statement}
 use Rattle.edge_facet.proofs.fe.Tie as tie
 
@@ -72,10 +72,10 @@ returns c =
     let g0 = none w1.before.empty.ensures.0 in
     let g1 = one_more g0 end.fv2.ensures.0 w1.with.ensures.0 in
     let g2 = one_less g1 start.before.fv.ensures.0 start.against4.ensures.0 w2.with2.ensures.0 in
-    let g3 = half-less g2 (λ h. ee h a.e) a.f.rp a.f.r a.f.p rp.before.he3.ensures.0 rp.against3.ensures.0 w3.with3.ensures.0 in
-    let g4 = half-less g3 (λ h. ee h a.e) a.f.qr a.f.q a.f.r qr.before.he2.ensures.0 qr.against2.ensures.0 w4.with4.ensures.0 in
-    let g5 = half-less g4 (λ h. ee h a.e) a.f.pq a.f.p a.f.q pq.before.he.ensures.0 pq.against.ensures.0 w5.with5.ensures.0 in
-    sized (all_of g5 c.finish.ensures) (two-fe a.f a.e)
+    let g3 = half_less g2 (λ h. ee h a.e) a.f.rp a.f.r a.f.p rp.before.he3.ensures.0 rp.against3.ensures.0 w3.with3.ensures.0 in
+    let g4 = half_less g3 (λ h. ee h a.e) a.f.qr a.f.q a.f.r qr.before.he2.ensures.0 qr.against2.ensures.0 w4.with4.ensures.0 in
+    let g5 = half_less g4 (λ h. ee h a.e) a.f.pq a.f.p a.f.q pq.before.he.ensures.0 pq.against.ensures.0 w5.with5.ensures.0 in
+    sized (all_of g5 c.finish.ensures) (two_fe a.f a.e)
 
 pub fe-spec : {M : Type 1} → statement M
 fe-spec =

@@ -3,14 +3,14 @@ use mathlib.Core.Path.{sym, ◌∙◌, ap, subst}
 use Prim.Native.Nat.{◌≤◌, ◌-◌}
 use native.Mathlib.Omega.{arith}
 use native.Mathlib.Nat.{le_antisymm}
-use Rattle.edges.specs.Words.{edges-seen, Listed}
-use Rattle.edges.proofs.Edges.{edges_none, edges-all}
+use Rattle.edges.specs.Words.{edges_seen, Listed}
+use Rattle.edges.proofs.Edges.{edges_none, edges_all}
 use borrow.Author.Rules.{rules}
 use Rattle.edges.proofs.list_edges.Statement.{statement}
 use Rattle.edges.proofs.list_edges.Tie as tie
 
 abbrev invariant-loop : tie.invariant-loop
-invariant-loop table corners n ends₀ numbers₀ many₀ p₀ ends numbers many p = (p ≤ n) × Listed (edges-seen corners n p 0) ends numbers many
+invariant-loop table corners n ends₀ numbers₀ many₀ p₀ ends numbers many p = (p ≤ n) × Listed (edges_seen corners n p 0) ends numbers many
 
 abbrev decreases-loop : tie.decreases-loop
 decreases-loop table corners n ends₀ numbers₀ many₀ p₀ ends numbers many p = n - p
@@ -34,7 +34,7 @@ same_length : tie.Need-same-length invariant-loop decreases-loop
 same_length c = c.before.loop.invariant.1.room ∙ sym c.before.before.before.before.requires.1.room
 
 returns : tie.Need-returns invariant-loop decreases-loop
-returns c = let l = c.before in let a = l.before.before.before.args in subst (λ es. Listed es l.loop.ends l.loop.numbers l.loop.many) (ap (λ p. edges-seen a.corners.now a.n p 0) (le_antisymm l.loop.invariant.0 c.loop-test.false) ∙ edges-all a.corners.now a.n) l.loop.invariant.1
+returns c = let l = c.before in let a = l.before.before.before.args in subst (λ es. Listed es l.loop.ends l.loop.numbers l.loop.many) (ap (λ p. edges_seen a.corners.now a.n p 0) (le_antisymm l.loop.invariant.0 c.loop-test.false) ∙ edges_all a.corners.now a.n) l.loop.invariant.1
 
 pub list-edges-spec : {M : Type 1} → statement M
 list-edges-spec =

@@ -27,12 +27,12 @@ pair-pieces-requires-2 c κs =
     let e = le-ltb _ _ c.before.before.if1.false in
     ((s.requires.0.0, s.requires.0.1, rw e at s.requires.0.3, omega (arith, c.before.before.if1.false, s.requires.0.2)), rw e at s.requires.1)
 
-same-length-2 : tie.Need-same-length-2
-same-length-2 c = search rules
+same_length_2 : tie.Need-same-length-2
+same_length_2 c = search rules
 
-returns-2 : tie.Need-returns-2
+returns_2 : tie.Need-returns-2
 unfolding pair
-returns-2 c = rw (le-ltb _ _ c.before.before.before.before.before.if1.false) c.before.before.pair-pieces2.ensures
+returns_2 c = rw (le-ltb _ _ c.before.before.before.before.before.if1.false) c.before.before.pair-pieces2.ensures
 
 pub pair-at-spec : {M : Type 1} → statement M
 pair-at-spec =
@@ -42,5 +42,5 @@ pair-at-spec =
     same_length
     returns
     pair-pieces-requires-2
-    same-length-2
-    returns-2)
+    same_length_2
+    returns_2)

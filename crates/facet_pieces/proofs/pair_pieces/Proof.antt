@@ -9,7 +9,7 @@ use Rattle.results.specs.declared.End.{End}
 use Rattle.results.specs.Pieces.{pieces}
 use Rattle.joined_ends.specs.Words.{flat, Behind}
 use Rattle.vertex_table.specs.Words.{flip, turn}
-use Rattle.vertex_table.proofs.Gather.{turn-pieces}
+use Rattle.vertex_table.proofs.Gather.{turn_pieces}
 use Rattle.kept_lists.specs.Words.{rows, pair_ends}
 use borrow.Author.Rules.{rules}
 use Rattle.facet_pieces.proofs.pair_pieces.Statement.{statement}
@@ -21,18 +21,18 @@ start c = c.before.before.before.before.before.before.before.before.before.befor
 -- the six ends, as code has them and as they are defined
 abbrev six : tie.After-b-end3 → List End
 six c =
-    c.before.before.before.before.before.a-end.result ∷ c.before.before.before.before.a-end2.result ∷ c.before.before.before.a-end3.result ∷ c.before.before.b_end.result ∷ c.before.b-end2.result ∷ c.b-end3.result ∷ []
+    c.before.before.before.before.before.a_end.result ∷ c.before.before.before.before.a-end2.result ∷ c.before.before.before.a-end3.result ∷ c.before.before.b_end.result ∷ c.before.b-end2.result ∷ c.b-end3.result ∷ []
 
 abbrev defined : tie.Start → List End
 defined s = let a = s.args in pair_ends (rows a.first.now a.crossed.now a.plan.base) a.halves.now a.plan.sizes a.f a.g
 
-same-six : (c : tie.After-b-end3) → six c ≡ map (flip (start c).args.turn) (defined (start c))
+same_six : (c : tie.After-b-end3) → six c ≡ map (flip (start c).args.turn) (defined (start c))
 unfolding pair_ends
-same-six c =
-    λ j. c.before.before.before.before.before.a-end.ensures j ∷ c.before.before.before.before.a-end2.ensures j ∷ c.before.before.before.a-end3.ensures j ∷ c.before.before.b_end.ensures j ∷ c.before.b-end2.ensures j ∷ c.b-end3.ensures j ∷ []
+same_six c =
+    λ j. c.before.before.before.before.before.a_end.ensures j ∷ c.before.before.before.before.a-end2.ensures j ∷ c.before.before.before.a-end3.ensures j ∷ c.before.before.b_end.ensures j ∷ c.before.b-end2.ensures j ∷ c.b-end3.ensures j ∷ []
 
-six-pieces : (c : tie.After-b-end3) → pieces (six c) ≡ turn (start c).args.turn (pieces (defined (start c)))
-six-pieces c = ap pieces (same-six c) ∙ turn-pieces (start c).args.turn (defined (start c))
+six_pieces : (c : tie.After-b-end3) → pieces (six c) ≡ turn (start c).args.turn (pieces (defined (start c)))
+six_pieces c = ap pieces (same_six c) ∙ turn_pieces (start c).args.turn (defined (start c))
 
 add-m : tie.Need-overflow-add-m
 add-m c = let s = c.before.before.before.before.before in record { fits = omega (arith, s.requires.0.0.sized.fa, s.requires.0.0.sized.fb, s.requires.0.2, s.requires.0.3) }
@@ -106,7 +106,7 @@ array-set-from-all-6 c = search rules
 join-at-requires : tie.Need-join-at-requires
 join-at-requires c κs = let d = c.before in
     let a = (start d).args in
-    (omega arith, subst (λ (ps : List Half). a.to + length (flat ps) ≤ length a.list.now) (sym (six-pieces d)) (start d).requires.1)
+    (omega arith, subst (λ (ps : List Half). a.to + length (flat ps) ≤ length a.list.now) (sym (six_pieces d)) (start d).requires.1)
 
 same_length : tie.Need-same-length
 same_length c = c.before.before.join-at.auto.1.1.0
@@ -115,7 +115,7 @@ returns : tie.Need-returns
 returns c = let j = c.before.before.join-at in
     let d = c.before.before.before.before in
     let a = (start d).args in
-    subst (λ (ps : List Half). Behind (flat ps) a.list.now a.to j.new.1.1.0 j.result) (six-pieces d) j.ensures
+    subst (λ (ps : List Half). Behind (flat ps) a.list.now a.to j.new.1.1.0 j.result) (six_pieces d) j.ensures
 
 pub pair-pieces-spec : {M : Type 1} → statement M
 pair-pieces-spec =

@@ -12,8 +12,8 @@ beyond-requires c κs = search rules
 returns : tie.Need-returns
 returns c = rw (c.before.if1.true, c.blank.ensures)
 
-returns-2 : tie.Need-returns-2
-returns-2 c = rw (c.before.if1.false, c.beyond.ensures)
+returns_2 : tie.Need-returns-2
+returns_2 c = rw (c.before.if1.false, c.beyond.ensures)
 
 pub bad-spec : {M : Type 1} → statement M
-bad-spec = tie.close (tie.spec blank-requires beyond-requires returns returns-2)
+bad-spec = tie.close (tie.spec blank-requires beyond-requires returns returns_2)

@@ -20,9 +20,9 @@ returns : tie.Need-returns
 unfolding any
 returns c = rw (← c.before.bad.ensures, c.if1.true)
 
-returns-2 : tie.Need-returns-2
+returns_2 : tie.Need-returns-2
 unfolding any
-returns-2 c = rw (← c.before.before.before.bad.ensures, c.before.before.if1.false, ← c.before.bad2.ensures, c.if2.true)
+returns_2 c = rw (← c.before.before.before.bad.ensures, c.before.before.if1.false, ← c.before.bad2.ensures, c.if2.true)
 
 returns-3 : tie.Need-returns-3
 unfolding any
@@ -33,4 +33,4 @@ returns-3 c =
 
 pub bad-point-spec : {M : Type 1} → statement M
 bad-point-spec =
-    tie.close (tie.spec bad-requires bad-requires-2 bad-requires-3 returns returns-2 returns-3)
+    tie.close (tie.spec bad-requires bad-requires-2 bad-requires-3 returns returns_2 returns-3)

@@ -8,9 +8,9 @@ returns : tie.Need-returns
 unfolding beyond of_bits
 returns c = rw c.if1.true
 
-returns-2 : tie.Need-returns-2
+returns_2 : tie.Need-returns-2
 unfolding beyond of_bits neg
-returns-2 c = rw c.if1.false
+returns_2 c = rw c.if1.false
 
 pub beyond-spec : {M : Type 1} → statement M
-beyond-spec = tie.close (tie.spec returns returns-2)
+beyond-spec = tie.close (tie.spec returns returns_2)

@@ -11,14 +11,14 @@ use Rattle.solids.specs.declared.Verdict.{Verdict}
 use Rattle.solids.specs.declared.Verdict.TheVariants.{Accepted}
 use Rattle.solids.specs.Refusals.{in_order, at_each}
 use Rattle.solids.specs.Solids.{solid}
-use Rattle.solids.specs.Admission.{check-facet, check-corners}
+use Rattle.solids.specs.Admission.{check_facet, check_corners}
 use Rattle.solids.proofs.Checks.{each_next, each_at}
 use borrow.Author.Rules.{rules}
 use Rattle.faults.proofs.check_corners.Statement.{statement}
 use Rattle.faults.proofs.check_corners.Tie as tie
 
 abbrev check : List Float → List ℕ → ℕ → Verdict
-check points corners = check-facet (solid points corners)
+check points corners = check_facet (solid points corners)
 
 abbrev invariant-loop : tie.invariant-loop
 invariant-loop points corners f₀ f = (f ≤ length corners / 3) × (at_each f (check points corners) ≡ Accepted)
@@ -37,12 +37,12 @@ enum-known-said : tie.Need-enum-known-said invariant-loop decreases-loop
 enum-known-said c = search rules
 
 returns : tie.Need-returns invariant-loop decreases-loop
-unfolding check-corners
+unfolding check_corners
 returns c =
     let l = c.before.before.before.before.before in
     let a = l.before.before.before.args in
     sym (each_at (check a.points.now a.corners.now) (length a.corners.now / 3) l.loop.f _ c.before.before.before.before.loop-test.true
-    l.loop.invariant.1 (sym c.before.before.before.check-facet.ensures ∙ c.before.said.given.1))
+    l.loop.invariant.1 (sym c.before.before.before.check_facet.ensures ∙ c.before.said.given.1))
 
 enum_told : tie.Need-enum-told invariant-loop decreases-loop
 enum_told c = search rules
@@ -57,11 +57,11 @@ loop-again : tie.Need-loop-preserved invariant-loop decreases-loop
 loop-again c =
     let l = c.before.before.before.before in
     let a = l.before.before.before.args in
-    (omega arith, each_next (check a.points.now a.corners.now) l.loop.f l.loop.invariant.1 (sym c.before.before.check-facet.ensures ∙ c.enum_told.given.1))
+    (omega arith, each_next (check a.points.now a.corners.now) l.loop.f l.loop.invariant.1 (sym c.before.before.check_facet.ensures ∙ c.enum_told.given.1))
 
-returns-2 : tie.Need-returns-2 invariant-loop decreases-loop
-unfolding check-corners
-returns-2 c = let l = c.before in sym (rw (le_antisymm c.loop-test.false l.loop.invariant.0) l.loop.invariant.1)
+returns_2 : tie.Need-returns-2 invariant-loop decreases-loop
+unfolding check_corners
+returns_2 c = let l = c.before in sym (rw (le_antisymm c.loop-test.false l.loop.invariant.0) l.loop.invariant.1)
 
 pub check-corners-spec : {M : Type 1} → statement M
 check-corners-spec =
@@ -77,4 +77,4 @@ check-corners-spec =
     add-f
     loop-less
     loop-again
-    returns-2)
+    returns_2)

@@ -1,7 +1,7 @@
 -- `check_facet` meets its contract: 10, then 11.
 use native.Mathlib.Nat.{add-zero}
 use Rattle.solids.specs.Refusals.{in_order}
-use Rattle.solids.specs.Admission.{check-facet}
+use Rattle.solids.specs.Admission.{check_facet}
 use borrow.Author.Rules.{rules}
 use Rattle.faults.proofs.check_facet.Statement.{statement}
 use Rattle.faults.proofs.check_facet.Tie as tie
@@ -46,8 +46,8 @@ on-solid-requires : tie.Need-on-solid-requires
 on-solid-requires c κs = search rules
 
 returns : tie.Need-returns
-unfolding check-facet in_order
-returns c = rw (add-zero, ← c.before.before.too-high.ensures, c.before.if1.true, c.on-solid.ensures)
+unfolding check_facet in_order
+returns c = rw (add-zero, ← c.before.before.too_high.ensures, c.before.if1.true, c.on_solid.ensures)
 
 named-twice-requires : tie.Need-named-twice-requires
 named-twice-requires c κs = search rules
@@ -55,14 +55,14 @@ named-twice-requires c κs = search rules
 on-solid-requires-2 : tie.Need-on-solid-requires-2
 on-solid-requires-2 c κs = search rules
 
-returns-2 : tie.Need-returns-2
-unfolding check-facet in_order
-returns-2 c =
-    rw (add-zero, ← c.before.before.before.before.too-high.ensures, c.before.before.before.if1.false, ← c.before.before.named-twice.ensures, c.before.if2.true, c.on-solid2.ensures)
+returns_2 : tie.Need-returns-2
+unfolding check_facet in_order
+returns_2 c =
+    rw (add-zero, ← c.before.before.before.before.too_high.ensures, c.before.before.before.if1.false, ← c.before.before.named_twice.ensures, c.before.if2.true, c.on-solid2.ensures)
 
 returns-3 : tie.Need-returns-3
-unfolding check-facet in_order
-returns-3 c = rw (add-zero, ← c.before.before.before.too-high.ensures, c.before.before.if1.false, ← c.before.named-twice.ensures, c.if2.false)
+unfolding check_facet in_order
+returns-3 c = rw (add-zero, ← c.before.before.before.too_high.ensures, c.before.before.if1.false, ← c.before.named_twice.ensures, c.if2.false)
 
 pub check-facet-spec : {M : Type 1} → statement M
 check-facet-spec =
@@ -84,5 +84,5 @@ check-facet-spec =
     returns
     named-twice-requires
     on-solid-requires-2
-    returns-2
+    returns_2
     returns-3)

@@ -10,16 +10,16 @@ use lib.ListN.{length}
 use Rattle.list_words.specs.Lists.{up_to}
 use Rattle.solids.specs.declared.Verdict.{Verdict}
 use Rattle.solids.specs.declared.Verdict.TheVariants.{Accepted}
-use Rattle.solids.specs.Refusals.{on-solid, given, in_order, at_each}
+use Rattle.solids.specs.Refusals.{on_solid, given, in_order, at_each}
 use Rattle.solids.specs.Solids.{solid, vertex}
-use Rattle.solids.specs.Words.{bad-number, check-vertex}
+use Rattle.solids.specs.Words.{bad_number, check_vertex}
 use Rattle.solids.proofs.Checks.{each_next, each_at}
 use borrow.Author.Rules.{rules}
 use Rattle.faults.proofs.check_points.Statement.{statement}
 use Rattle.faults.proofs.check_points.Tie as tie
 
 abbrev check : Bool → List Float → ℕ → Verdict
-check blanks points = check-vertex blanks (solid points [])
+check blanks points = check_vertex blanks (solid points [])
 
 abbrev invariant-loop : tie.invariant-loop
 invariant-loop blanks points i₀ i = (i ≤ length points / 3) × (at_each i (check blanks points) ≡ Accepted)
@@ -29,11 +29,11 @@ decreases-loop blanks points i₀ i = length points / 3 - i
 
 -- what the code sees of vertex i
 seen : (c : tie.After-bad-point invariant-loop decreases-loop) → let l = c.before.before.before in let a = l.before.before.args in
-    check a.blanks a.points.now l.loop.i ≡ given (on-solid (bad-number a.blanks) l.loop.i) c.bad-point.result
+    check a.blanks a.points.now l.loop.i ≡ given (on_solid (bad_number a.blanks) l.loop.i) c.bad-point.result
 seen c =
     let l = c.before.before.before in
     let a = l.before.before.args in
-    ap (given (on-solid (bad-number a.blanks) l.loop.i)) (sym (rw c.before.vertex.ensures at c.bad-point.ensures))
+    ap (given (on_solid (bad_number a.blanks) l.loop.i)) (sym (rw c.before.vertex.ensures at c.bad-point.ensures))
 
 loop-holds : tie.Need-loop-init invariant-loop decreases-loop
 unfolding in_order up_to
@@ -56,7 +56,7 @@ returns c =
     let l = c.before.before.before.before.before.before in
     let a = l.before.before.args in
     sym (each_at (check a.blanks a.points.now) (length a.points.now / 3) l.loop.i _ c.before.before.before.before.before.loop-test.true
-    l.loop.invariant.1 (seen c.before.before.before ∙ rw (c.before.before.if1.true, c.on-solid.ensures, c.before.bad-number.ensures)))
+    l.loop.invariant.1 (seen c.before.before.before ∙ rw (c.before.before.if1.true, c.on_solid.ensures, c.before.bad_number.ensures)))
 
 add-i : tie.Need-overflow-add-i invariant-loop decreases-loop
 add-i c = search rules
@@ -70,8 +70,8 @@ loop-again c =
     let a = l.before.before.args in
     (omega arith, each_next (check a.blanks a.points.now) l.loop.i l.loop.invariant.1 (seen c.before ∙ rw c.if1.false))
 
-returns-2 : tie.Need-returns-2 invariant-loop decreases-loop
-returns-2 c = let l = c.before in sym (rw (le_antisymm c.loop-test.false l.loop.invariant.0) l.loop.invariant.1)
+returns_2 : tie.Need-returns-2 invariant-loop decreases-loop
+returns_2 c = let l = c.before in sym (rw (le_antisymm c.loop-test.false l.loop.invariant.0) l.loop.invariant.1)
 
 pub check-points-spec : {M : Type 1} → statement M
 check-points-spec =
@@ -88,4 +88,4 @@ check-points-spec =
     add-i
     loop-less
     loop-again
-    returns-2)
+    returns_2)

@@ -3,7 +3,7 @@ use Prim.Native.Nat.{ℕ, ◌+◌, ◌*◌, ◌<◌}
 use native.Mathlib.Omega.{arith}
 use native.Mathlib.Nat.{add-zero}
 use lib.ListN.{get_or}
-use Rattle.solids.proofs.Tally.{low-at, low_first}
+use Rattle.solids.proofs.Tally.{low_at, low_first}
 use Rattle.half_edges.proofs.Fill.{put_three}
 use borrow.Author.Rules.{rules}
 use Rattle.half_edges.proofs.put_facet.Statement.{statement}
@@ -44,7 +44,7 @@ shared-slice-read-r c = search rules
 
 -- the three corners find their rows
 low : (s : tie.Start) (k : ℕ) → k < 3 → get_or s.args.corners.now (3 * s.args.f + k) 0 < 128
-low s k h = low-at s.args.corners.now s.args.f k s.requires.0 s.requires.1 h
+low s k h = low_at s.args.corners.now s.args.f k s.requires.0 s.requires.1 h
 
 lowest : (s : tie.Start) → get_or s.args.corners.now (3 * s.args.f) 0 < 128
 lowest s = low_first s.args.corners.now s.args.f s.requires.0 s.requires.1

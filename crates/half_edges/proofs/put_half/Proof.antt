@@ -1,5 +1,5 @@
 -- `put_half` meets its contract: what stands in the table at the edge's place is the edge's number.
-use Rattle.half_edges.proofs.Fill.{put_along, put-against}
+use Rattle.half_edges.proofs.Fill.{put_along, put_against}
 use borrow.Author.Rules.{rules}
 use Rattle.half_edges.proofs.put_half.Statement.{statement}
 use Rattle.half_edges.proofs.put_half.Tie as tie
@@ -48,13 +48,13 @@ returns c =
     c.before.before.before.before.before.before.place.ensures.0 c.before.before.before.before.twice.ensures.0
     c.before.before.put_three.ensures
 
-same-length-2 : tie.Need-same-length-2
-same-length-2 c = search rules
+same_length_2 : tie.Need-same-length-2
+same_length_2 c = search rules
 
-returns-2 : tie.Need-returns-2
-returns-2 c =
+returns_2 : tie.Need-returns-2
+returns_2 c =
     let a = c.before.before.before.before.before.before.before.before.before.args in
-    put-against a.numbers.now a.list.now a.at a.p a.q c.before.before.before.before.before.before.place2.result
+    put_against a.numbers.now a.list.now a.at a.p a.q c.before.before.before.before.before.before.place2.result
     c.before.before.before.before.twice2.result c.before.before.before.before.before.before.before.if1.false
     c.before.before.before.before.before.before.place2.ensures.0 c.before.before.before.before.twice2.ensures.0
     c.before.before.put-three2.ensures
@@ -76,5 +76,5 @@ put-half-spec =
     put-three-requires-2
     same_length
     returns
-    same-length-2
-    returns-2)
+    same_length_2
+    returns_2)

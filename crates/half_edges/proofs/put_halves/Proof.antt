@@ -7,7 +7,7 @@ use lib.ListN.{length}
 use lib.Seq.{sets, length-sets}
 use Rattle.solids.specs.Words.{counted}
 use Rattle.half_edges.specs.Words.{threes}
-use Rattle.half_edges.proofs.Fill.{put-none, put_next, all-counted}
+use Rattle.half_edges.proofs.Fill.{put_none, put_next, all_counted}
 use borrow.Author.Rules.{rules}
 use Rattle.half_edges.proofs.put_halves.Statement.{statement}
 use Rattle.half_edges.proofs.put_halves.Tie as tie
@@ -19,7 +19,7 @@ abbrev decreases-loop : tie.decreases-loop
 decreases-loop corners numbers list₀ at f₀ list f = length corners / 3 - f
 
 loop-holds : tie.Need-loop-init invariant-loop decreases-loop
-loop-holds c = let a = c.before.before.args in (omega arith, put-none a.numbers.now a.corners.now a.list.now a.at)
+loop-holds c = let a = c.before.before.args in (omega arith, put_none a.numbers.now a.corners.now a.list.now a.at)
 
 mul-put-facet : tie.Need-overflow-mul-put-facet invariant-loop decreases-loop
 mul-put-facet c = search rules
@@ -56,7 +56,7 @@ returns : tie.Need-returns invariant-loop decreases-loop
 returns c =
     let l = c.before.loop in
     let a = c.before.before.before.before.args in
-    l.invariant.1 ∙ ap (λ hs. sets a.list.now a.at (threes a.numbers.now hs)) (all-counted a.corners.now l.f (le_antisymm l.invariant.0 c.loop-test.false))
+    l.invariant.1 ∙ ap (λ hs. sets a.list.now a.at (threes a.numbers.now hs)) (all_counted a.corners.now l.f (le_antisymm l.invariant.0 c.loop-test.false))
 
 pub put-halves-spec : {M : Type 1} → statement M
 put-halves-spec =

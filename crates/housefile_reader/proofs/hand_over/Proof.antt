@@ -34,11 +34,11 @@ copy-corners-requires c κs = search rules
 same_length : tie.Need-same-length
 same_length c = search rules
 
-same-length-2 : tie.Need-same-length-2
-same-length-2 c = search rules
+same_length_2 : tie.Need-same-length-2
+same_length_2 c = search rules
 
-returns-2 : tie.Need-returns-2
-returns-2 c =
+returns_2 : tie.Need-returns-2
+returns_2 c =
     let i = c.before.before.before.before.before.before in
     let k = i.before.before.before.before in
     let a = k.before.before.before.before.before.args in
@@ -58,5 +58,5 @@ hand-over-spec =
     copy-points-requires
     copy-corners-requires
     same_length
-    same-length-2
-    returns-2)
+    same_length_2
+    returns_2)

@@ -1,6 +1,6 @@
 -- `keep` meets its contract: a vertex among the points, a facet among the corners, else nothing.
 use borrow.Author.Rules.{rules}
-use Rattle.housefile_reader.proofs.Kept.{kept-nothing}
+use Rattle.housefile_reader.proofs.Kept.{kept_nothing}
 use Rattle.housefile_reader.proofs.keep.Statement.{statement}
 use Rattle.housefile_reader.proofs.keep.Tie as tie
 
@@ -23,16 +23,16 @@ enum-told-2 : tie.Need-enum-told-2
 enum-told-2 c = search rules
 
 returns : tie.Need-returns
-returns c = let a = c.before.before.before.before.before.args in rw c.before.before.before.found.given.1 (c.keep-vertex.ensures, kept-nothing 256 a.w.facets a.corners.now)
+returns c = let a = c.before.before.before.before.before.args in rw c.before.before.before.found.given.1 (c.keep-vertex.ensures, kept_nothing 256 a.w.facets a.corners.now)
 
-returns-2 : tie.Need-returns-2
-returns-2 c = let a = c.before.before.before.before.before.args in rw c.before.before.before.found2.given.1 (kept-nothing 128 a.w.vertices a.points.now, c.keep-facet.ensures)
+returns_2 : tie.Need-returns-2
+returns_2 c = let a = c.before.before.before.before.before.args in rw c.before.before.before.found2.given.1 (kept_nothing 128 a.w.vertices a.points.now, c.keep-facet.ensures)
 
 returns-3 : tie.Need-returns-3
-returns-3 c = let a = c.before.before.args in rw c.enum_told.given.1 (kept-nothing 128 a.w.vertices a.points.now, kept-nothing 256 a.w.facets a.corners.now)
+returns-3 c = let a = c.before.before.args in rw c.enum_told.given.1 (kept_nothing 128 a.w.vertices a.points.now, kept_nothing 256 a.w.facets a.corners.now)
 
 returns-4 : tie.Need-returns-4
-returns-4 c = let a = c.before.before.args in rw c.enum-told2.given.1 (kept-nothing 128 a.w.vertices a.points.now, kept-nothing 256 a.w.facets a.corners.now)
+returns-4 c = let a = c.before.before.args in rw c.enum-told2.given.1 (kept_nothing 128 a.w.vertices a.points.now, kept_nothing 256 a.w.facets a.corners.now)
 
 pub keep_spec : {M : Type 1} → statement M
 keep_spec =
@@ -45,6 +45,6 @@ keep_spec =
     enum_told
     enum-told-2
     returns
-    returns-2
+    returns_2
     returns-3
     returns-4)

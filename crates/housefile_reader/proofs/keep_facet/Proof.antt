@@ -2,7 +2,7 @@
 use mathlib.Core.Path.{◌∙◌}
 use mathlib.Core.List.{[], ◌∷◌}
 use borrow.Author.Rules.{rules}
-use Rattle.housefile_reader.proofs.Kept.{kept-within, kept-beyond}
+use Rattle.housefile_reader.proofs.Kept.{kept_within, kept_beyond}
 use Rattle.housefile_reader.proofs.keep_facet.Statement.{statement}
 use Rattle.housefile_reader.proofs.keep_facet.Tie as tie
 
@@ -16,10 +16,10 @@ returns : tie.Need-returns
 returns c =
     let k = c.before.before in
     let a = k.before.args in
-    c.put_three.ensures ∙ kept-within 256 a.f (a.p ∷ a.q ∷ a.r ∷ []) a.corners.now k.if1.true
+    c.put_three.ensures ∙ kept_within 256 a.f (a.p ∷ a.q ∷ a.r ∷ []) a.corners.now k.if1.true
 
-returns-2 : tie.Need-returns-2
-returns-2 c = let a = c.before.args in kept-beyond 256 a.f _ a.corners.now c.if1.false
+returns_2 : tie.Need-returns-2
+returns_2 c = let a = c.before.args in kept_beyond 256 a.f _ a.corners.now c.if1.false
 
 pub keep-facet-spec : {M : Type 1} → statement M
-keep-facet-spec = tie.close (tie.spec mul-put-three put-three-requires returns returns-2)
+keep-facet-spec = tie.close (tie.spec mul-put-three put-three-requires returns returns_2)

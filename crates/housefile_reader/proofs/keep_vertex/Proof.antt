@@ -2,7 +2,7 @@
 use mathlib.Core.Path.{◌∙◌}
 use borrow.Author.Rules.{rules}
 use Rattle.points.specs.Points.{coordinates}
-use Rattle.housefile_reader.proofs.Kept.{kept-within, kept-beyond}
+use Rattle.housefile_reader.proofs.Kept.{kept_within, kept_beyond}
 use Rattle.housefile_reader.proofs.keep_vertex.Statement.{statement}
 use Rattle.housefile_reader.proofs.keep_vertex.Tie as tie
 
@@ -16,10 +16,10 @@ returns : tie.Need-returns
 returns c =
     let k = c.before.before in
     let a = k.before.args in
-    c.put-point.ensures ∙ kept-within 128 a.i (coordinates a.v) a.points.now k.if1.true
+    c.put-point.ensures ∙ kept_within 128 a.i (coordinates a.v) a.points.now k.if1.true
 
-returns-2 : tie.Need-returns-2
-returns-2 c = let a = c.before.args in kept-beyond 128 a.i _ a.points.now c.if1.false
+returns_2 : tie.Need-returns-2
+returns_2 c = let a = c.before.args in kept_beyond 128 a.i _ a.points.now c.if1.false
 
 pub keep-vertex-spec : {M : Type 1} → statement M
-keep-vertex-spec = tie.close (tie.spec mul-put-point put-point-requires returns returns-2)
+keep-vertex-spec = tie.close (tie.spec mul-put-point put-point-requires returns returns_2)

@@ -4,7 +4,7 @@ use native.Mathlib.Omega.{arith}
 use lib.Seq.{length-take-le}
 use borrow.Author.Rules.{rules}
 use Rattle.housefile.specs.Reader.{layout, read}
-use Rattle.housefile_reader.proofs.Outcomes.{refused-by-numbers, Past, past}
+use Rattle.housefile_reader.proofs.Outcomes.{refused_by_numbers, Past, past}
 use Rattle.housefile_reader.proofs.read.Statement.{statement}
 use Rattle.housefile_reader.proofs.read.Tie as tie
 
@@ -27,15 +27,15 @@ returns c =
     let n = k.before in
     let a = n.before.before.before.before.before.before.args in
     rw c.refused.ensures
-    (refused-by-numbers n.scan.result n.scan.new.1.0 n.scan.new.1.1.0 a.points.now a.corners.now (layout a.bytes.now) n.scan.ensures.0
+    (refused_by_numbers n.scan.result n.scan.new.1.0 n.scan.new.1.1.0 a.points.now a.corners.now (layout a.bytes.now) n.scan.ensures.0
     _ (sym k.refusal.ensures ∙ c.before.before.said.given.1))
 
 -- past 9, 2 and 8
-gone-past : (c : tie.After-enum-told)
+gone_past : (c : tie.After-enum-told)
     → let n = c.before.before.before in
     let a = n.before.before.before.before.before.before.args in
     Past n.scan.result n.scan.new.1.0 n.scan.new.1.1.0 a.points.now a.corners.now (layout a.bytes.now)
-gone-past c =
+gone_past c =
     let n = c.before.before.before in
     let a = n.before.before.before.before.before.before.args in
     past n.scan.result n.scan.new.1.0 n.scan.new.1.1.0 a.points.now a.corners.now (layout a.bytes.now) n.scan.ensures.0
@@ -45,39 +45,39 @@ enum_told : tie.Need-enum-told
 enum_told c = search rules
 
 mul-n : tie.Need-overflow-mul-n
-mul-n c = omega (arith, (gone-past c.before).few-vertices)
+mul-n c = omega (arith, (gone_past c.before).few_vertices)
 
 mul-m : tie.Need-overflow-mul-m
-mul-m c = omega (arith, (gone-past c.before.before).few-facets)
+mul-m c = omega (arith, (gone_past c.before.before).few_facets)
 
 array-share-prefix-kept-points : tie.Need-array-share-prefix-kept-points
-array-share-prefix-kept-points c = (gone-past c.before.before).points-there
+array-share-prefix-kept-points c = (gone_past c.before.before).points_there
 
 slice-aggregate-hand-over : tie.Need-slice-aggregate-hand-over
-slice-aggregate-hand-over c = sym (length-take-le _ _ (gone-past c.before.before.before).points-there)
+slice-aggregate-hand-over c = sym (length-take-le _ _ (gone_past c.before.before.before).points_there)
 
 array-share-prefix-kept-corners : tie.Need-array-share-prefix-kept-corners
-array-share-prefix-kept-corners c = (gone-past c.before.before.before).corners-there
+array-share-prefix-kept-corners c = (gone_past c.before.before.before).corners_there
 
 slice-aggregate-hand-over-2 : tie.Need-slice-aggregate-hand-over-2
-slice-aggregate-hand-over-2 c = sym (length-take-le _ _ (gone-past c.before.before.before.before).corners-there)
+slice-aggregate-hand-over-2 c = sym (length-take-le _ _ (gone_past c.before.before.before.before).corners_there)
 
 hand-over-requires : tie.Need-hand-over-requires
 hand-over-requires c κs =
-    let p = gone-past c.before.before.before.before.before.before in
-    (rw (length-take-le _ _ p.points-there) p.points-room, rw (length-take-le _ _ p.corners-there) p.corners-room)
+    let p = gone_past c.before.before.before.before.before.before in
+    (rw (length-take-le _ _ p.points_there) p.points_room, rw (length-take-le _ _ p.corners_there) p.corners_room)
 
 same_length : tie.Need-same-length
 same_length c = search rules
 
-same-length-2 : tie.Need-same-length-2
-same-length-2 c = search rules
+same_length_2 : tie.Need-same-length-2
+same_length_2 c = search rules
 
-returns-2 : tie.Need-returns-2
+returns_2 : tie.Need-returns-2
 unfolding read
-returns-2 c =
+returns_2 c =
     let h = c.before.before.before.before in
-    h.hand-over.ensures ∙ sym (gone-past h.before.before.before.before.before.before.before).rest
+    h.hand-over.ensures ∙ sym (gone_past h.before.before.before.before.before.before.before).rest
 
 pub read_spec : {M : Type 1} → statement M
 read_spec =
@@ -97,5 +97,5 @@ read_spec =
     slice-aggregate-hand-over-2
     hand-over-requires
     same_length
-    same-length-2
-    returns-2)
+    same_length_2
+    returns_2)

@@ -10,9 +10,9 @@ returns : tie.Need-returns
 unfolding refusal in_order
 returns c = rw c.if1.true
 
-returns-2 : tie.Need-returns-2
+returns_2 : tie.Need-returns-2
 unfolding refusal in_order
-returns-2 c = rw (c.before.before.if1.false, lt-ltb _ _ c.if2.true)
+returns_2 c = rw (c.before.before.if1.false, lt-ltb _ _ c.if2.true)
 
 returns-3 : tie.Need-returns-3
 unfolding refusal in_order
@@ -51,4 +51,4 @@ returns-6 c =
 
 pub refusal-spec : {M : Type 1} → statement M
 refusal-spec =
-    tie.close (tie.spec returns returns-2 returns-3 mul-if4 returns-4 mul-if5 returns-5 returns-6)
+    tie.close (tie.spec returns returns_2 returns-3 mul-if4 returns-4 mul-if5 returns-5 returns-6)

@@ -38,9 +38,9 @@ returns : tie.Need-returns
 unfolding stepped
 returns c = rw c.before.before.before.before.enum_told.given.1
 
-returns-2 : tie.Need-returns-2
+returns_2 : tie.Need-returns-2
 unfolding stepped
-returns-2 c = rw c.before.before.enum-told2.given.1
+returns_2 c = rw c.before.before.enum-told2.given.1
 
 returns-3 : tie.Need-returns-3
 unfolding stepped
@@ -64,6 +64,6 @@ step_spec =
     add-t10
     enum-told-4
     returns
-    returns-2
+    returns_2
     returns-3
     returns-4)

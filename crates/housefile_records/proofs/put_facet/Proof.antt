@@ -4,9 +4,9 @@ use Prim.Native.Nat.{◌+◌}
 use native.Mathlib.Omega.{arith}
 use borrow.Author.Rules.{rules}
 use Rattle.numbers.specs.Numbers.{bytes}
-use Rattle.numbers.proofs.Numbers.{length-bytes}
-use Rattle.list_stores.proofs.Stores.{sets-four}
-use Rattle.housefile.specs.Records.{mark-FC, encoded}
+use Rattle.numbers.proofs.Numbers.{length_bytes}
+use Rattle.list_stores.proofs.Stores.{sets_four}
+use Rattle.housefile.specs.Records.{mark_FC, encoded}
 use Rattle.housefile_records.proofs.put_facet.Statement.{statement}
 use Rattle.housefile_records.proofs.put_facet.Tie as tie
 
@@ -42,8 +42,8 @@ returns c =
     let k = j.before.before.before.before in
     let a = k.before.before.before.args in
     rw (c.before.before.put-number4.ensures, i.put-number3.ensures, j.put-number2.ensures, k.put-number.ensures)
-    (sets-four a.bytes.now a.at (a.at + 2) (a.at + 6) (a.at + 10) mark-FC (bytes 4 a.p) (bytes 4 a.q) (bytes 4 a.r) refl
-    (omega (arith, length-bytes 4 a.p)) (omega (arith, length-bytes 4 a.q)))
+    (sets_four a.bytes.now a.at (a.at + 2) (a.at + 6) (a.at + 10) mark_FC (bytes 4 a.p) (bytes 4 a.q) (bytes 4 a.r) refl
+    (omega (arith, length_bytes 4 a.p)) (omega (arith, length_bytes 4 a.q)))
 
 pub put-facet-spec : {M : Type 1} → statement M
 put-facet-spec =

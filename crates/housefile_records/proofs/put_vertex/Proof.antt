@@ -5,12 +5,12 @@ use native.Mathlib.Omega.{arith}
 use lib.Ieee.{is_nan}
 use borrow.Author.Rules.{rules}
 use Rattle.list_words.proofs.Tests.{any_false}
-use Rattle.numbers.specs.Numbers.{bytes, float-bytes}
-use Rattle.numbers.proofs.Numbers.{length-float-bytes}
+use Rattle.numbers.specs.Numbers.{bytes, float_bytes}
+use Rattle.numbers.proofs.Numbers.{length_float_bytes}
 use Rattle.points.specs.Points.{coordinates}
-use Rattle.list_stores.proofs.Stores.{sets-four}
-use Rattle.housefile.specs.Records.{mark-VX}
-use Rattle.housefile.proofs.Records.{vx-parts}
+use Rattle.list_stores.proofs.Stores.{sets_four}
+use Rattle.housefile.specs.Records.{mark_VX}
+use Rattle.housefile.proofs.Records.{vx_parts}
 use Rattle.housefile_records.proofs.put_vertex.Statement.{statement}
 use Rattle.housefile_records.proofs.put_vertex.Tie as tie
 
@@ -45,9 +45,9 @@ returns c =
     let j = i.before.before.before.before in
     let k = j.before.before.before.before in
     let a = k.before.before.before.args in
-    rw (vx-parts a.v, c.before.before.put-float3.ensures, i.put-float2.ensures, j.put-float.ensures, k.put-number.ensures)
-    (sets-four a.bytes.now a.at (a.at + 2) (a.at + 10) (a.at + 18) mark-VX (float-bytes a.v.x) (float-bytes a.v.y) (float-bytes a.v.z) refl
-    (omega (arith, length-float-bytes a.v.x)) (omega (arith, length-float-bytes a.v.y)))
+    rw (vx_parts a.v, c.before.before.put-float3.ensures, i.put-float2.ensures, j.put-float.ensures, k.put-number.ensures)
+    (sets_four a.bytes.now a.at (a.at + 2) (a.at + 10) (a.at + 18) mark_VX (float_bytes a.v.x) (float_bytes a.v.y) (float_bytes a.v.z) refl
+    (omega (arith, length_float_bytes a.v.x)) (omega (arith, length_float_bytes a.v.y)))
 
 pub put-vertex-spec : {M : Type 1} → statement M
 put-vertex-spec =

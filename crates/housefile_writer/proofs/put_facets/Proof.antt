@@ -8,21 +8,21 @@ use lib.ListN.{length}
 use lib.Seq.{sets, length-sets}
 use borrow.Author.Rules.{rules}
 use Rattle.list_words.specs.Lists.{up_to}
-use Rattle.list_stores.proofs.Stores.{run-next}
+use Rattle.list_stores.proofs.Stores.{run_next}
 use Rattle.solids.specs.Solids.{solid, corner}
 use Rattle.housefile.specs.declared.Record.TheVariants.{Fc}
 use Rattle.housefile.specs.Records.{encoded}
-use Rattle.housefile_writer.specs.Words.{facet-part}
-use Rattle.housefile.proofs.Records.{length-encoded}
+use Rattle.housefile_writer.specs.Words.{facet_part}
+use Rattle.housefile.proofs.Records.{length_encoded}
 use Rattle.housefile_writer.proofs.put_facets.Statement.{statement}
 use Rattle.housefile_writer.proofs.put_facets.Tie as tie
 
-abbrev facet-bytes : List ℕ → ℕ → List ℕ
-facet-bytes corners f = encoded (Fc (corner (solid [] corners) f 0) (corner (solid [] corners) f 1) (corner (solid [] corners) f 2))
+abbrev facet_bytes : List ℕ → ℕ → List ℕ
+facet_bytes corners f = encoded (Fc (corner (solid [] corners) f 0) (corner (solid [] corners) f 1) (corner (solid [] corners) f 2))
 
 abbrev invariant-loop : tie.invariant-loop
 invariant-loop corners bytes₀ at f₀ bytes f =
-    (f ≤ length corners / 3) × (length bytes ≡ length bytes₀) × (bytes ≡ sets bytes₀ at (flat_map (facet-bytes corners) (up_to f)))
+    (f ≤ length corners / 3) × (length bytes ≡ length bytes₀) × (bytes ≡ sets bytes₀ at (flat_map (facet_bytes corners) (up_to f)))
 
 abbrev decreases-loop : tie.decreases-loop
 decreases-loop corners bytes₀ at f₀ bytes f = length corners / 3 - f
@@ -85,7 +85,7 @@ loop-again c =
     let cs = l.before.before.before.args.corners.now in
     let old = l.before.before.before.args.bytes.now in
     let at = l.before.before.before.args.at in
-    let e = run-next (facet-bytes cs) 14 (λ f. length-encoded (Fc (corner (solid [] cs) f 0) (corner (solid [] cs) f 1) (corner (solid [] cs) f 2))) old at l.loop.f in (
+    let e = run_next (facet_bytes cs) 14 (λ f. length_encoded (Fc (corner (solid [] cs) f 0) (corner (solid [] cs) f 1) (corner (solid [] cs) f 2))) old at l.loop.f in (
       omega arith,
       rw c.before.before.put-facet.ensures (length-sets l.loop.bytes (at + 14 * l.loop.f) (encoded (Fc _ _ _)) ∙ l.loop.invariant.1),
       rw (c.before.before.put-facet.ensures, l.loop.invariant.2) (rw (add-zero (3 * l.loop.f)) at e),
@@ -95,7 +95,7 @@ same_length : tie.Need-same-length invariant-loop decreases-loop
 same_length c = search rules
 
 returns : tie.Need-returns invariant-loop decreases-loop
-unfolding facet-part
+unfolding facet_part
 returns c = let l = c.before in rw (← le_antisymm l.loop.invariant.0 c.loop-test.false) l.loop.invariant.2
 
 pub put-facets-spec : {M : Type 1} → statement M

@@ -6,17 +6,17 @@ use lib.ListN.{length}
 use lib.Ieee.{is_nan}
 use borrow.Author.Rules.{rules}
 use Rattle.list_words.specs.Lists.{onto}
-use Rattle.list_words.proofs.Tests.{false-any}
-use Rattle.solids.specs.Refusals.{no-refusal}
+use Rattle.list_words.proofs.Tests.{false_any}
+use Rattle.solids.specs.Refusals.{no_refusal}
 use Rattle.solids.specs.declared.Verdict.TheVariants.{Accepted}
 use Rattle.solids.specs.Solids.{Solid, solid, vertices, facets}
 use Rattle.solids.specs.Admission.{admission}
 use Rattle.solids.proofs.Admitted.{Passed, passed}
-use Rattle.housefile_writer.specs.Words.{vertex-part, facet-part}
+use Rattle.housefile_writer.specs.Words.{vertex_part, facet_part}
 use Rattle.housefile.specs.Writer.{file}
-use Rattle.housefile.proofs.Shown.{length-file}
-use Rattle.housefile.proofs.Refusals.{write-first, write-then-8, write-else}
-use Rattle.housefile_writer.proofs.Parts.{file-put}
+use Rattle.housefile.proofs.Shown.{length_file}
+use Rattle.housefile.proofs.Refusals.{write_first, write_then_8, write_else}
+use Rattle.housefile_writer.proofs.Parts.{file_put}
 use Rattle.housefile_writer.proofs.write.Statement.{statement}
 use Rattle.housefile_writer.proofs.write.Tie as tie
 
@@ -33,7 +33,7 @@ through : (c : tie.After-enum-told) → Passed (of c)
 through c = passed (of c) (fine c)
 
 long : (c : tie.After-enum-told) → length (file (of c)) ≡ 26 * vertices (of c) + 14 * facets (of c) + 2
-long c = let p = through c in length-file (of c) p.points-whole p.corners-whole
+long c = let p = through c in length_file (of c) p.points_whole p.corners_whole
 
 enum-known-said : tie.Need-enum-known-said
 enum-known-said c = search rules
@@ -43,7 +43,7 @@ returns c =
     let k = c.before.before.before in
     let a = k.before.before.before.before.args in
     let s : Solid = solid a.points.now a.corners.now in
-    sym (write-first s a.bytes.now _ (sym k.admit.ensures ∙ c.before.said.given.1))
+    sym (write_first s a.bytes.now _ (sym k.admit.ensures ∙ c.before.said.given.1))
 
 enum_told : tie.Need-enum-told
 enum_told c = search rules
@@ -55,20 +55,20 @@ mul-end-at : tie.Need-overflow-mul-end-at
 mul-end-at c = search rules
 
 add-end-at : tie.Need-overflow-add-end-at
-add-end-at c = let p = through c in omega (arith, p.few-vertices, p.few-facets)
+add-end-at c = let p = through c in omega (arith, p.few_vertices, p.few_facets)
 
 add-if1 : tie.Need-overflow-add-if1
-add-if1 c = let p = through c in omega (arith, p.few-vertices, p.few-facets)
+add-if1 c = let p = through c in omega (arith, p.few_vertices, p.few_facets)
 
-returns-2 : tie.Need-returns-2
-returns-2 c =
+returns_2 : tie.Need-returns-2
+returns_2 c =
     let s = of c.before in
-    sym (write-then-8 s c.before.before.before.before.before.before.before.args.bytes.now (fine c.before) (omega (arith, long c.before, c.if1.true)))
+    sym (write_then_8 s c.before.before.before.before.before.before.before.args.bytes.now (fine c.before) (omega (arith, long c.before, c.if1.true)))
 
 put-vertices-requires : tie.Need-put-vertices-requires
 put-vertices-requires c κs =
     let e = c.before.before in
-    (search rules, false-any is_nan (of e).points (through e).present)
+    (search rules, false_any is_nan (of e).points (through e).present)
 
 put-facets-requires : tie.Need-put-facets-requires
 put-facets-requires c κs = search rules
@@ -83,7 +83,7 @@ same_length : tie.Need-same-length
 same_length c = search rules
 
 returns-3 : tie.Need-returns-3
-unfolding vertex-part facet-part
+unfolding vertex_part facet_part
 returns-3 c =
     let f = c.before.before.before.before.before.before in
     let v = f.before.before.before.before in
@@ -92,8 +92,8 @@ returns-3 c =
     let s = of e in
     let room : length (file s) ≤ length old = omega (arith, long e, v.before.before.if1.false) in
     let put : c.before.before.put-end.new.0 ≡ onto (file s) old =
-    rw (c.before.before.put-end.ensures, f.put-facets.ensures, v.put-vertices.ensures) (file-put s old room) in
-    sym (write-else s old (fine e) room ∙ (λ i. record { answer = no-refusal; used = long e i; bytes = sym put i }))
+    rw (c.before.before.put-end.ensures, f.put-facets.ensures, v.put-vertices.ensures) (file_put s old room) in
+    sym (write_else s old (fine e) room ∙ (λ i. record { answer = no_refusal; used = long e i; bytes = sym put i }))
 
 pub write_spec : {M : Type 1} → statement M
 write_spec =
@@ -107,7 +107,7 @@ write_spec =
     mul-end-at
     add-end-at
     add-if1
-    returns-2
+    returns_2
     put-vertices-requires
     put-facets-requires
     put-end-requires

@@ -8,9 +8,9 @@ use lib.ListN.{length}
 use lib.Seq.{length-take-le}
 use mir.Syntax.{w32}
 use mir.Val.{to_z, of_z}
-use Rattle.list_words.proofs.Widths.{back-32}
+use Rattle.list_words.proofs.Widths.{back_32}
 use Rattle.solids.specs.Solids.{Solid, solid, vertex}
-use Rattle.solids.specs.Containment.{in-A, in-B}
+use Rattle.solids.specs.Containment.{in_A, in_B}
 use Rattle.solids.specs.Words.{contained}
 use Rattle.solids.proofs.Admitted.{passed}
 use Rattle.results.specs.declared.Numbers.{Numbers}
@@ -19,11 +19,11 @@ use Rattle.results.specs.declared.Operation.TheVariants.{Union, Intersection, Di
 use Rattle.results.specs.Inclusion.{numbers, cA, cB, cI, inclusion, vA, vB}
 use Rattle.bounds.specs.declared.Bounds.{Bounds}
 use Rattle.bounds.specs.Words.{whole}
-use Rattle.bounds.proofs.Things.{number-vertex, all-hull}
+use Rattle.bounds.proofs.Things.{number_vertex, all_hull}
 use Rattle.inclusions.specs.declared.Side.{Side}
-use Rattle.inclusions.specs.Words.{All-present, Siding, weight}
+use Rattle.inclusions.specs.Words.{All_present, Siding, weight}
 use Rattle.list_words.proofs.Places.{rest_all}
-use Rattle.inclusions.proofs.Weighing.{weighed-both}
+use Rattle.inclusions.proofs.Weighing.{weighed_both}
 use borrow.Author.Rules.{rules}
 use Rattle.inclusions.proofs.include.Statement.{statement}
 use Rattle.inclusions.proofs.include.Tie as tie
@@ -35,7 +35,7 @@ small Difference = (omega arith, omega arith, omega arith)
 
 -- an operation's number as it is stored
 stored : (x y : ℤ) → x ≡ y → nat_abs y ≤ 1 → to_z w32 (of_z w32 x) ≡ y
-stored x y e h = ap (λ n. to_z w32 (of_z w32 n)) e ∙ back-32 y (omega (arith, h))
+stored x y e h = ap (λ n. to_z w32 (of_z w32 n)) e ∙ back_32 y (omega (arith, h))
 
 module _ (s : tie.Start) where
   abbrev a : Solid
@@ -44,41 +44,41 @@ module _ (s : tie.Start) where
   abbrev b : Solid
   b = solid s.args.bp.now s.args.bc.now
 
-  present-a : All-present s.args.ap.now
-  present-a i = number-vertex a (passed a s.pre.1.0.0) i
+  present_a : All_present s.args.ap.now
+  present_a i = number_vertex a (passed a s.pre.1.0.0) i
 
-  present-b : All-present s.args.bp.now
-  present-b i = number-vertex b (passed b s.pre.1.0.1) i
+  present_b : All_present s.args.bp.now
+  present_b i = number_vertex b (passed b s.pre.1.0.1) i
 
-  module _ (p q : Bounds) (n : Numbers) (of-n : n ≡ numbers s.args.op) where
-    abbrev side-a : Side
-    side-a = record { as_b = true; own = p; other = q; alone = to_z w32 (of_z w32 n.c_a); times = to_z w32 (of_z w32 n.c_i); at = 0 }
+  module _ (p q : Bounds) (n : Numbers) (of_n : n ≡ numbers s.args.op) where
+    abbrev side_a : Side
+    side_a = record { as_b = true; own = p; other = q; alone = to_z w32 (of_z w32 n.c_a); times = to_z w32 (of_z w32 n.c_i); at = 0 }
 
-    abbrev side-b : Side
-    side-b = record { as_b = false; own = q; other = p; alone = to_z w32 (of_z w32 n.c_b); times = to_z w32 (of_z w32 n.c_i); at = length s.args.ap.now / 3 }
+    abbrev side_b : Side
+    side_b = record { as_b = false; own = q; other = p; alone = to_z w32 (of_z w32 n.c_b); times = to_z w32 (of_z w32 n.c_i); at = length s.args.ap.now / 3 }
 
-    of-a : to_z w32 (of_z w32 n.c_a) ≡ cA s.args.op
-    of-a = stored n.c_a (cA s.args.op) (ap (λ (n : Numbers). n.c_a) of-n) (small s.args.op).0
+    of_a : to_z w32 (of_z w32 n.c_a) ≡ cA s.args.op
+    of_a = stored n.c_a (cA s.args.op) (ap (λ (n : Numbers). n.c_a) of_n) (small s.args.op).0
 
-    of-b : to_z w32 (of_z w32 n.c_b) ≡ cB s.args.op
-    of-b = stored n.c_b (cB s.args.op) (ap (λ (n : Numbers). n.c_b) of-n) (small s.args.op).1
+    of_b : to_z w32 (of_z w32 n.c_b) ≡ cB s.args.op
+    of_b = stored n.c_b (cB s.args.op) (ap (λ (n : Numbers). n.c_b) of_n) (small s.args.op).1
 
-    of-i : to_z w32 (of_z w32 n.c_i) ≡ cI s.args.op
-    of-i = stored n.c_i (cI s.args.op) (ap (λ (n : Numbers). n.c_i) of-n) (small s.args.op).2
+    of_i : to_z w32 (of_z w32 n.c_i) ≡ cI s.args.op
+    of_i = stored n.c_i (cI s.args.op) (ap (λ (n : Numbers). n.c_i) of_n) (small s.args.op).2
 
-    siding-a : p ≡ whole a → q ≡ whole b → Siding side-a s.args.ap.now b
-    siding-a e d = record { own = e; other = d; alone = rw of-a (small s.args.op).0; times = rw of-i (small s.args.op).2 }
+    siding_a : p ≡ whole a → q ≡ whole b → Siding side_a s.args.ap.now b
+    siding_a e d = record { own = e; other = d; alone = rw of_a (small s.args.op).0; times = rw of_i (small s.args.op).2 }
 
-    siding-b : p ≡ whole a → q ≡ whole b → Siding side-b s.args.bp.now a
-    siding-b e d = record { own = d; other = e; alone = rw of-b (small s.args.op).1; times = rw of-i (small s.args.op).2 }
+    siding_b : p ≡ whole a → q ≡ whole b → Siding side_b s.args.bp.now a
+    siding_b e d = record { own = d; other = e; alone = rw of_b (small s.args.op).1; times = rw of_i (small s.args.op).2 }
 
-    weight-a : (i : ℕ) → weight side-a s.args.ap.now b i ≡ inclusion s.args.op a b (vA i)
+    weight_a : (i : ℕ) → weight side_a s.args.ap.now b i ≡ inclusion s.args.op a b (vA i)
     unfolding weight contained inclusion
-    weight-a i = ap₂ (λ x y. x +ℤ y *ℤ in-B (vertex a i) b) of-a of-i
+    weight_a i = ap₂ (λ x y. x +ℤ y *ℤ in_B (vertex a i) b) of_a of_i
 
-    weight-b : (i : ℕ) → weight side-b s.args.bp.now a i ≡ inclusion s.args.op a b (vB i)
+    weight_b : (i : ℕ) → weight side_b s.args.bp.now a i ≡ inclusion s.args.op a b (vB i)
     unfolding weight contained inclusion
-    weight-b i = ap₂ (λ x y. x +ℤ y *ℤ in-A a (vertex b i)) of-b of-i
+    weight_b i = ap₂ (λ x y. x +ℤ y *ℤ in_A a (vertex b i)) of_b of_i
 
 hull-requires : tie.Need-hull-requires
 hull-requires c κs = search rules
@@ -101,13 +101,13 @@ part-include-side-end c = search rules
 include-side-requires : tie.Need-include-side-requires
 include-side-requires c κs =
     let s = c.before.before.before.before.before.before.before.before.before.before.before in
-    let few = s.requires.0.0.few-points in
+    let few = s.requires.0.0.few_points in
     let own = c.before.before.before.before.before.hull in
     let other = c.before.before.before.before.hull2 in
     let n = c.before.before.before.numbers in
     rw (rest_all 768 s.args.ends.now) (
-      (s.requires.0.1, s.requires.1.0.1, present-a s),
-      (siding-a s own.result other.result n.result n.ensures (own.ensures ∙ all-hull s.args.ap.now) (other.ensures ∙ all-hull s.args.bp.now), few, omega (arith, s.requires.1.1), omega (arith, s.requires.1.1, few, s.requires.0.1.few-points)),
+      (s.requires.0.1, s.requires.1.0.1, present_a s),
+      (siding_a s own.result other.result n.result n.ensures (own.ensures ∙ all_hull s.args.ap.now) (other.ensures ∙ all_hull s.args.bp.now), few, omega (arith, s.requires.1.1), omega (arith, s.requires.1.1, few, s.requires.0.1.few_points)),
     )
 
 slice-aggregate-include-side : tie.Need-slice-aggregate-include-side
@@ -117,13 +117,13 @@ slice-aggregate-include-side c =
 include-side-requires-2 : tie.Need-include-side-requires-2
 include-side-requires-2 c κs =
     let s = c.before.before.before.before.before.before.before.before.before.before.before.before.before.before.before.before in
-    let few = s.requires.0.1.few-points in
+    let few = s.requires.0.1.few_points in
     let same = c.before.before.before.before.include-side.ensures.1 in
     let own = c.before.before.before.before.before.before.before.before.before.before.hull in
     let other = c.before.before.before.before.before.before.before.before.before.hull2 in
     let n = c.before.before.before.before.before.before.before.before.numbers in (
-      (s.requires.0.0, s.requires.1.0.0, present-b s),
-      (siding-b s own.result other.result n.result n.ensures (own.ensures ∙ all-hull s.args.ap.now) (other.ensures ∙ all-hull s.args.bp.now), few, omega (arith, s.requires.1.1, same), omega (arith, s.requires.1.1, same, few, s.requires.0.0.few-points)),
+      (s.requires.0.0, s.requires.1.0.0, present_b s),
+      (siding_b s own.result other.result n.result n.ensures (own.ensures ∙ all_hull s.args.ap.now) (other.ensures ∙ all_hull s.args.bp.now), few, omega (arith, s.requires.1.1, same), omega (arith, s.requires.1.1, same, few, s.requires.0.0.few_points)),
     )
 
 same_length : tie.Need-same-length
@@ -138,7 +138,7 @@ returns c =
     let e = c.before.before.before.before.before.before.before.before.before.before.numbers.ensures in
     let x = c.before.before.before.before.before.before.include-side in
     let y = c.before.include-side2 in
-    weighed-both s.args.op (a s) (b s) (side-a s p q n e) (side-b s p q n e) refl refl (weight-a s p q n e) (weight-b s p q n e) (y.ensures.1 ∙ x.ensures.1 ∙ s.requires.1.1) x.ensures.0 y.ensures.0
+    weighed_both s.args.op (a s) (b s) (side_a s p q n e) (side_b s p q n e) refl refl (weight_a s p q n e) (weight_b s p q n e) (y.ensures.1 ∙ x.ensures.1 ∙ s.requires.1.1) x.ensures.0 y.ensures.0
 
 pub include-spec : {M : Type 1} → statement M
 include-spec =

@@ -7,15 +7,15 @@ use lib.Ieee.{Float, binary64, of_bits}
 use lib.ListN.{length, take, length-replicate}
 use lib.Seq.{length-take-le}
 use Rattle.list_words.specs.Lists.{sum_of, up_to}
-use Rattle.list_words.proofs.UpTo.{length-upTo}
+use Rattle.list_words.proofs.UpTo.{length_up_to}
 use Rattle.solids.specs.Solids.{Solid, solid, vertices, facets, vertex}
 use Rattle.solids.proofs.Admitted.{passed}
 use Rattle.bounds.specs.declared.Far.{Far}
 use Rattle.bounds.specs.declared.Thing.TheVariants.{Facets}
 use Rattle.bounds.specs.Words.{box_of, Boxed, Narrowed}
 use Rattle.bounds.proofs.Inside.{In}
-use Rattle.bounds.proofs.Listing.{among-all, narrowed-among}
-use Rattle.bounds.proofs.Things.{in-hull}
+use Rattle.bounds.proofs.Listing.{among_all, narrowed_among}
+use Rattle.bounds.proofs.Things.{in_hull}
 use Rattle.inclusions.specs.Words.{idle, counted, Facing}
 use Rattle.inclusions.proofs.Beside.{sum_near}
 use borrow.Author.Rules.{rules}
@@ -36,13 +36,13 @@ module _ (s : tie.Start) where
       let g = subst (λ w. Narrowed columns w side.own (box_of Facets other) (up_to (facets other)) n) k h in
       record {
         boxed = boxed;
-        among = narrowed-among h (among-all (omega (arith, r.few)));
-        few = omega (arith, length-take-le n columns h.room, h.fits, length-upTo (facets other), r.few);
+        among = narrowed_among h (among_all (omega (arith, r.few)));
+        few = omega (arith, length-take-le n columns h.room, h.fits, length_up_to (facets other), r.few);
         enough = λ i from to.
             let v = vertex (solid own []) i in
             ap (sum_of (counted side own other i)) g.front
             ∙ sum_near side.as_b v other (passed other s.pre.0.1) side.own
-            (subst (λ b. In b v) (sym s.pre.1.0.own) (in-hull (solid own []) s.pre.0.2 0 (vertices (solid own [])) i from (omega (arith, to)))) (up_to (facets other));
+            (subst (λ b. In b v) (sym s.pre.1.0.own) (in_hull (solid own []) s.pre.0.2 0 (vertices (solid own [])) i from (omega (arith, to)))) (up_to (facets other));
       }
 
 idle-requires : tie.Need-idle-requires

@@ -6,11 +6,11 @@ use native.Mathlib.Omega.{arith}
 use native.Mathlib.Nat.{le_antisymm}
 use lib.IntN.{ℤ, ◌+ℤ◌, ◌*ℤ◌}
 use lib.ListN.{length, length-set}
-use Rattle.list_words.proofs.Widths.{back-16, back-32}
+use Rattle.list_words.proofs.Widths.{back_16, back_32}
 use Rattle.solids.specs.Solids.{Solid, solid}
 use Rattle.solids.specs.Words.{contained}
 use Rattle.inclusions.specs.Words.{weight, Weighed}
-use Rattle.inclusions.proofs.Weighing.{weighed-next}
+use Rattle.inclusions.proofs.Weighing.{weighed_next}
 use borrow.Author.Rules.{rules}
 use Rattle.inclusions.proofs.weigh.Statement.{statement}
 use Rattle.inclusions.proofs.weigh.Tie as tie
@@ -39,7 +39,7 @@ weighed-requires c κs =
     let q = c.before.before.before.before.before.before.before.before.before.before.before.requires.1.1.0 in
     let side = c.before.before.before.before.before.before.before.before.before.before.before.args.side in
     let x = c.before.before.contained-near in
-    rw (back-32 side.alone (omega (arith, q.alone)), back-32 side.times (omega (arith, q.times)), back-32 x.result (omega (arith, x.ensures.1))) (q.alone, q.times, x.ensures.1)
+    rw (back_32 side.alone (omega (arith, q.alone)), back_32 side.times (omega (arith, q.times)), back_32 x.result (omega (arith, x.ensures.1))) (q.alone, q.times, x.ensures.1)
 
 add-n : tie.Need-overflow-add-n invariant-loop decreases-loop
 add-n c = let p = c.before.before.before.before.before.before.before.before.before.before.before.before.before.requires.1 in record { fits = omega (arith, c.before.before.before.before.before.before.loop-test.true, p.0.2, p.1.2, p.1.3) }
@@ -69,14 +69,14 @@ loop-again c =
     let n = c.before.weighed in
     let value : n.result ≡ weight side s.args.own.now other l.i =
     n.ensures.0
-    ∙ rw (back-32 side.alone (omega (arith, q.0.alone)), back-32 side.times (omega (arith, q.0.times)), back-32 x.result (omega (arith, x.ensures.1)))
+    ∙ rw (back_32 side.alone (omega (arith, q.0.alone)), back_32 side.times (omega (arith, q.0.times)), back_32 x.result (omega (arith, x.ensures.1)))
     (ap (λ m. side.alone +ℤ side.times *ℤ m) (x.ensures.0 ∙ ap (λ v. contained side.as_b v other) c.before.before.before.before.before.vertex.ensures))
     in
-    rw (back-16 n.result n.ensures.1) (
+    rw (back_16 n.result n.ensures.1) (
       omega (arith, l.invariant.0),
       omega (arith, t),
       length-set l.inc (side.at + l.i) n.result ∙ l.invariant.2,
-      λ old w. weighed-next side s.args.own.now other old l.inc l.i n.result (omega (arith, t, s.requires.1.0.2, q.2, l.invariant.2)) value n.ensures.1 (l.invariant.3 old w),
+      λ old w. weighed_next side s.args.own.now other old l.inc l.i n.result (omega (arith, t, s.requires.1.0.2, q.2, l.invariant.2)) value n.ensures.1 (l.invariant.3 old w),
     )
 
 same_length : tie.Need-same-length invariant-loop decreases-loop

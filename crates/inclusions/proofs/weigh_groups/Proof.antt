@@ -11,13 +11,13 @@ use Rattle.solids.specs.Solids.{Solid, solid, vertex}
 use Rattle.solids.proofs.Admitted.{passed}
 use Rattle.bounds.specs.declared.Bounds.{Bounds}
 use Rattle.bounds.specs.declared.Far.{Far}
-use Rattle.bounds.specs.Words.{hull, box-at, Narrowed}
+use Rattle.bounds.specs.Words.{hull, box_at, Narrowed}
 use Rattle.bounds.proofs.Inside.{In}
-use Rattle.bounds.proofs.Listing.{narrowed-among, narrowed-own}
-use Rattle.bounds.proofs.Things.{in-hull}
+use Rattle.bounds.proofs.Listing.{narrowed_among, narrowed_own}
+use Rattle.bounds.proofs.Things.{in_hull}
 use Rattle.inclusions.specs.Words.{idle, counted, Facing, Weighed}
 use Rattle.inclusions.proofs.Beside.{sum_near}
-use Rattle.inclusions.proofs.Weighing.{weighed-none}
+use Rattle.inclusions.proofs.Weighing.{weighed_none}
 use borrow.Author.Rules.{rules}
 use Rattle.inclusions.proofs.weigh_groups.Statement.{statement}
 use Rattle.inclusions.proofs.weigh_groups.Tie as tie
@@ -34,26 +34,26 @@ module _ (s : tie.Start invariant-loop decreases-loop) where
 
   -- the facets near the box round a group count all there is for it
   facing : (i e : ℕ) → e ≤ length s.args.own.now / 3 → (p : Bounds) → p ≡ hull s.args.own.now i (e - i) → (w : Far) → w ≡ idle s.args.side.as_b → {few : List ℕ} {n : ℕ}
-      → Narrowed few w p (box-at s.args.boxes.now) s.args.columns.now n → Facing s.args.side s.args.own.now other (take n few) s.args.boxes.now i e
+      → Narrowed few w p (box_at s.args.boxes.now) s.args.columns.now n → Facing s.args.side s.args.own.now other (take n few) s.args.boxes.now i e
   facing i e to p d w k {few} {n} h =
       let f = s.pre.1.0 in
       let own = s.args.own.now in
       let side = s.args.side in
       let columns = s.args.columns.now in
-      let near = narrowed-own (subst (λ w. Narrowed few w p (box-at s.args.boxes.now) columns n) k h) f.boxed f.among in
+      let near = narrowed_own (subst (λ w. Narrowed few w p (box_at s.args.boxes.now) columns n) k h) f.boxed f.among in
       record {
         boxed = f.boxed;
-        among = narrowed-among h f.among;
+        among = narrowed_among h f.among;
         few = omega (arith, length-take-le n few h.room, h.fits, f.few);
         enough = λ j from below.
             let v = vertex (solid own []) j in
             ap (sum_of (counted side own other j)) near
-            ∙ sum_near side.as_b v other (passed other s.pre.0.1) p (subst (λ b. In b v) (sym d) (in-hull (solid own []) s.pre.0.2 i (e - i) j from (omega (arith, from, below)))) columns
+            ∙ sum_near side.as_b v other (passed other s.pre.0.1) p (subst (λ b. In b v) (sym d) (in_hull (solid own []) s.pre.0.2 i (e - i) j from (omega (arith, from, below)))) columns
             ∙ f.enough j (omega arith) (omega (arith, below, to));
       }
 
 loop-holds : tie.Need-loop-init invariant-loop decreases-loop
-loop-holds c = let s = c.before.before.before.before.before in (omega arith, refl, refl, weighed-none s.args.side s.args.own.now (other s) s.args.inc.now)
+loop-holds c = let s = c.before.before.before.before.before in (omega arith, refl, refl, weighed_none s.args.side s.args.own.now (other s) s.args.inc.now)
 
 group-end-requires : tie.Need-group-end-requires invariant-loop decreases-loop
 group-end-requires c κs = c.loop-test.true

@@ -63,7 +63,7 @@ use Rattle.placed_ends.specs.contracts.place_end as g
 use Rattle.placed_ends.proofs.place_end.Symbol as g-def
 use Rattle.placed_ends.proofs.place_end.Symbol.{name as #place-end}
 use Rattle.placed_ends.proofs.place_end.Met as g-thm
-use Rattle.joined_ends.proofs.AllPlaced.{State, blank, placed-to, placed-to-all}
+use Rattle.joined_ends.proofs.AllPlaced.{State, blank, placed_to, placed_to_all}
 use Rattle.joined_ends.specs.contracts.join.Key.{name as #join}
 use Rattle.joined_ends.specs.contracts.join as f
 use Rattle.joined_ends.proofs.join.Statement as stated
@@ -121,7 +121,7 @@ module _ {M : Type 1} {𝓤 : Ura M} (𝓛 : Logic 𝓤) (mem'' : Memory → SPr
 
   -- the list and the counts after i ends
   abbrev S : ℕ → State
-  S i = placed-to es (old, c) i
+  S i = placed_to es (old, c) i
 
   abbrev Seen : Fml
   Seen = fshr_bor κ (λ t. (arr_parts (shares T.the_row) n).part t es b o)
@@ -143,7 +143,7 @@ module _ {M : Type 1} {𝓤 : Ura M} (𝓛 : Logic 𝓤) (mem'' : Memory → SPr
   exits el =
       qed 𝓛 (‵ (flft κ q) ∷ ‵ (flft κ' q') ∷ ‵ (Whole (S n).0) ∷ ‵ (OwnCounts (S n).1) ∷ []) ∵
       suffices ! _ (ends_at 𝓛 f.ended stayed (f.clauses 𝓛 mem'' run) (((κ, (κ', tt)), (q, (q', tt)), bounds, a, at), tt) (countsVal (S n).1) (S n).1 (tt, ((S n).0, (tt, tt))) (tt, (el, (tt, tt)))) $
-      says ! (both (placed-to-all es (old, c))) $
+      says ! (both (placed_to_all es (old, c))) $
       nothing ! $ move ! (2 ∷ 0 ∷ []) $ join ! $ move ! (1 ∷ 0 ∷ []) $ join ! $ frame ! $
       nothing ! $ nothing ! $ fjoin ! $ move ! (1 ∷ 0 ∷ []) $ fjoin ! $ nothing ! $ fjoin ! $ done !
 
@@ -192,9 +192,9 @@ module _ {M : Type 1} {𝓤 : Ura M} (𝓛 : Logic 𝓤) (mem'' : Memory → SPr
           use1 𝓛 (later (some (λ (δ : GName). ‵ ((MutSlice (named 0) (ν ∷ []) u32).own_val (x δ (S i).0) (s (S i).0 ∷ [])) ⊛ ‵ (flent (ν ∷ []) (Held u32 (length (S i).0) b' o' δ))))) (lends_slice 𝓛 u32 (named 0) (ν ∷ []) (S i).0 b' o' (subst (Room u32) (sym el) gp)) $ await ! tt $ pick ! (λ δ. split ! $
           owned ! T.the_row (Is T.the_row) (LL.makes T.the_type T'.the_plain 𝓛) e _ is $
           -- [the end; the list for the call; the loan; ν's token; κ's token; the ends; the open list; the counts; _4; …]
-          nothing ! $ move ! (1 ∷ 0 ∷ []) $ fjoin ! $ move ! (7 ∷ 0 ∷ []) $ fjoin ! $ move ! (1 ∷ 0 ∷ []) $ fjoin ! $ nothing ! $ move ! (3 ∷ 0 ∷ []) $ join ! $ join ! $ use1 𝓛 (raw ((Place 𝓛 mem'' run).pre (to-place ν δ))) (∗emp 𝓤 _) $
+          nothing ! $ move ! (1 ∷ 0 ∷ []) $ fjoin ! $ move ! (7 ∷ 0 ∷ []) $ fjoin ! $ move ! (1 ∷ 0 ∷ []) $ fjoin ! $ nothing ! $ move ! (3 ∷ 0 ∷ []) $ join ! $ join ! $ use1 𝓛 (raw ((Place 𝓛 mem'' run).pre (to_place ν δ))) (∗emp 𝓤 _) $
           -- [what the call asks; the loan; κ's token; the ends; the open list; _4; _3; _5; …]
-          calls_at ! (fm_of 𝓤 H 𝓛.laws 𝓣) (Place 𝓛 mem'' run) known (to-place ν δ) (and_then ! (load ! (from ! (stop !)) (look ! 10 refl)) (and_then ! (load ! (from ! (stop !)) (look ! 6 refl)) (and_then ! (load ! (from ! (stop !)) (look ! 12 refl)) (no_more !)))) (λ w.
+          calls_at ! (fm_of 𝓤 H 𝓛.laws 𝓣) (Place 𝓛 mem'' run) known (to_place ν δ) (and_then ! (load ! (from ! (stop !)) (look ! 10 refl)) (and_then ! (load ! (from ! (stop !)) (look ! 6 refl)) (and_then ! (load ! (from ! (stop !)) (look ! 12 refl)) (no_more !)))) (λ w.
           use1 𝓛 (later (some (λ (r : Counts). ((‵ (flft (ν ∷ []) full_share) ⊛ ‵ ftrue) ⊛ ‵ ((N.the_row).own_val r (w ∷ []))) ⊛ raw (ensured 𝓛 g.ended (g.clauses 𝓛 mem'' run) (ν ∷ [], tt) (x δ (S i).0, ((S i).1, (e, tt))) tt r)))) (id⊢ 𝓤 _) $ await ! tt $ pick ! (λ r.
           split ! $ move ! (1 ∷ []) $ use1 𝓛 (some (λ (zs : List ℕ × (Unit {0} × (Unit {0} × Unit {0}))). ‵ (lasts g.ended (ν ∷ [], tt) (x δ (S i).0, ((S i).1, (e, tt))) zs) ⊛ raw (fact 𝓤 ((zs.0 ≡ (S (suc i)).0) × (r ≡ (S (suc i)).1))))) (id⊢ 𝓤 _) $ pick ! (λ zs.
           split ! $ move ! (1 ∷ []) $ heard ! ((zs.0 ≡ (S (suc i)).0) × (r ≡ (S (suc i)).1)) (λ eq. fsplit ! $ fsplit ! $ move ! (1 ∷ []) $ feq_l ! (λ l.
@@ -218,8 +218,8 @@ module _ {M : Type 1} {𝓤 : Ura M} (𝓛 : Logic 𝓤) (mem'' : Memory → SPr
           e = get_or es i blank
 
           -- what `place_end`'s triple binds outside: the list lent for the lifetime ν, under the name δ
-          to-place : ℕ → GName → (Place 𝓛 mem'' run).Ghost
-          to-place ν δ = (((ν ∷ [], tt), (full_share, tt), tt, (x δ (S i).0, ((S i).1, (e, tt))), (s (S i).0 ∷ [], (countsVal (S i).1 ∷ [], (endVal e ∷ [], tt)))), tt)
+          to_place : ℕ → GName → (Place 𝓛 mem'' run).Ghost
+          to_place ν δ = (((ν ∷ [], tt), (full_share, tt), tt, (x δ (S i).0, ((S i).1, (e, tt))), (s (S i).0 ∷ [], (countsVal (S i).1 ∷ [], (endVal e ∷ [], tt)))), tt)
 
           next_fits : i + 1 < 2 ^ 64
           next_fits = omega (arith, ge.0, small)

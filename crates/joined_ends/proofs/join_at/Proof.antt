@@ -5,7 +5,7 @@ use native.Mathlib.Omega.{arith}
 use lib.ListN.{length, take, drop}
 use Rattle.results.specs.Pieces.{pieces}
 use Rattle.joined_ends.specs.Words.{flat, Behind}
-use Rattle.joined_ends.proofs.Joined.{laid_none, laid_more, laid-behind}
+use Rattle.joined_ends.proofs.Joined.{laid_none, laid_more, laid_behind}
 use borrow.Author.Rules.{rules}
 use Rattle.joined_ends.proofs.join_at.Statement.{statement}
 use Rattle.joined_ends.proofs.join_at.Tie as tie
@@ -16,7 +16,7 @@ found c =
     let j = c.before.before.join_first in
     let s = c.before.before.before.before.before in
     let a = s.args in
-    laid-behind (laid_more (laid_none a.list.now a.at) (take a.n a.all) j.new.1.1.0 j.result (omega (arith, s.requires.1)) j.auto.1.1.0 j.ensures) s.requires.1
+    laid_behind (laid_more (laid_none a.list.now a.at) (take a.n a.all) j.new.1.1.0 j.result (omega (arith, s.requires.1)) j.auto.1.1.0 j.ensures) s.requires.1
 
 mul-join-first : tie.Need-overflow-mul-join-first
 mul-join-first c = search rules

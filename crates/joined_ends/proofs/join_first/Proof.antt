@@ -50,7 +50,7 @@ use Rattle.placed_ends.specs.declared.Counts.{Counts}
 use Rattle.joined_ends.specs.Words.{all_placed}
 use Rattle.placed_ends.specs.contracts.Counts as N
 use Rattle.placed_ends.proofs.Counts.TheLaws as N'
-use Rattle.joined_ends.proofs.Front.{Lent, Kept, lends-front, front-back}
+use Rattle.joined_ends.proofs.Front.{Lent, Kept, lends_front, front_back}
 use Rattle.joined_ends.specs.contracts.join as g
 use Rattle.joined_ends.proofs.join.Symbol as g-def
 use Rattle.joined_ends.proofs.join.Symbol.{name as #join}
@@ -127,23 +127,23 @@ module _ {M : Type 1} {𝓤 : Ura M} (𝓛 : Logic 𝓤) (mem'' : Memory → SPr
       begun =
           assigns ! (of_opd ! (load ! (from ! (stop !)) (look ! 4 refl))) (from ! (stop !)) (init ! 8 refl ((Array-Lawful 𝓛 T.the_row (LL.lawful T.the_type T'.the_laws 𝓛) 8).typed xs _ ia).0) $
           assigns ! (addr ! (from ! (stop !))) (from ! (stop !)) (init ! 9 refl (tt, tt)) $
-          assigns ! (agg ! (and_then ! (load ! (from ! (stop !)) (look ! 9 refl)) (and_then ! (load ! (from ! (stop !)) (look ! 5 refl)) (no_more !)))) (from ! (stop !)) (init ! 10 refl (tt, (tt, (record { fits = n-fits }, tt)))) $
+          assigns ! (agg ! (and_then ! (load ! (from ! (stop !)) (look ! 9 refl)) (and_then ! (load ! (from ! (stop !)) (look ! 5 refl)) (no_more !)))) (from ! (stop !)) (init ! 10 refl (tt, (tt, (record { fits = n_fits }, tt)))) $
           assigns ! (addr ! (from ! (fld ! refl (hop ! (look_in ! 6 (sub ! 0 refl (whole !))) (stop !))))) (from ! (stop !)) (init ! 11 refl (tt, tt)) $
           assigns ! (agg ! (and_then ! (load ! (from ! (stop !)) (look ! 11 refl)) (and_then ! (load ! (from ! (fld ! refl (stop !))) (look_in ! 6 (sub ! 1 refl (whole !)))) (no_more !)))) (from ! (stop !)) (init ! 12 refl (tt, (tt, (record { fits = gp.0 }, tt)))) $
           -- the first n records of the array in _5 are lent for a lifetime ν of the call
           lft_new ! tt (λ ν. move ! (9 ∷ 3 ∷ []) $
-          use2 𝓛 (later (some (λ (δ : GName). ‵ (Lent 𝓛 T.the_row tt 8 xs len n l₅ (named 0) (ν ∷ []) δ) ⊛ ‵ (Kept 𝓛 T.the_row tt 8 xs len n l₅ (ν ∷ []))))) (lends-front 𝓛 T.the_row tt 8 xs len n l₅ (named 0) (ν ∷ []) v room) $ await ! tt $ pick ! (λ δ. split ! $
+          use2 𝓛 (later (some (λ (δ : GName). ‵ (Lent 𝓛 T.the_row tt 8 xs len n l₅ (named 0) (ν ∷ []) δ) ⊛ ‵ (Kept 𝓛 T.the_row tt 8 xs len n l₅ (ν ∷ []))))) (lends_front 𝓛 T.the_row tt 8 xs len n l₅ (named 0) (ν ∷ []) v room) $ await ! tt $ pick ! (λ δ. split ! $
           rewrite ! 11 (λ (m : ℕ). ‵ (fat full_share endsTy l₇ 0 (slice_val (l₅, 0) m))) (sym front_length) refl $
           -- [the lent ends; what is kept of them; ν's token; the list; the counts; κ's token; _1; _2; _3; _4; _6; _7; _8; _9; _0; …]
-          nothing ! $ move ! (5 ∷ 0 ∷ []) $ fjoin ! $ move ! (4 ∷ 0 ∷ []) $ fjoin ! $ move ! (1 ∷ 0 ∷ []) $ fjoin ! $ nothing ! $ move ! (4 ∷ 0 ∷ []) $ join ! $ move ! (3 ∷ 0 ∷ []) $ join ! $ join ! $ use1 𝓛 (raw ((Join 𝓛 mem'' run).pre (to-join ν δ))) (∗emp 𝓤 _) $
-          calls_at ! (fm_of 𝓤 H 𝓛.laws 𝓣) (Join 𝓛 mem'' run) known (to-join ν δ) (and_then ! (load ! (from ! (stop !)) (look ! 7 refl)) (and_then ! (load ! (from ! (stop !)) (look ! 9 refl)) (and_then ! (load ! (from ! (stop !)) (look ! 5 refl)) (no_more !)))) (λ w.
+          nothing ! $ move ! (5 ∷ 0 ∷ []) $ fjoin ! $ move ! (4 ∷ 0 ∷ []) $ fjoin ! $ move ! (1 ∷ 0 ∷ []) $ fjoin ! $ nothing ! $ move ! (4 ∷ 0 ∷ []) $ join ! $ move ! (3 ∷ 0 ∷ []) $ join ! $ join ! $ use1 𝓛 (raw ((Join 𝓛 mem'' run).pre (to_join ν δ))) (∗emp 𝓤 _) $
+          calls_at ! (fm_of 𝓤 H 𝓛.laws 𝓣) (Join 𝓛 mem'' run) known (to_join ν δ) (and_then ! (load ! (from ! (stop !)) (look ! 7 refl)) (and_then ! (load ! (from ! (stop !)) (look ! 9 refl)) (and_then ! (load ! (from ! (stop !)) (look ! 5 refl)) (no_more !)))) (λ w.
           use1 𝓛 (later (some (λ (r : Counts). ((‵ (flft (ν ∷ []) full_share) ⊛ ‵ (flft κ q) ⊛ ‵ ftrue) ⊛ ‵ ((N.the_row).own_val r (w ∷ []))) ⊛ raw (ensured 𝓛 g.ended (g.clauses 𝓛 mem'' run) (ν ∷ [], (κ, tt)) (lent δ, (x, (c, tt))) tt r)))) (id⊢ 𝓤 _) $ await ! tt $ pick ! (λ r.
           split ! $ move ! (1 ∷ []) $ use1 𝓛 (some (λ (zs : Unit {0} × (List ℕ × (Unit {0} × Unit {0}))). ‵ (lasts g.ended (ν ∷ [], (κ, tt)) (lent δ, (x, (c, tt))) zs) ⊛ raw (fact 𝓤 (Said zs.1.0 r)))) (id⊢ 𝓤 _) $ pick ! (λ zs.
           split ! $ move ! (1 ∷ []) $ heard ! (Said zs.1.0 r) (λ eq. fsplit ! $ drop ! $ fsplit ! $ fsplit ! $ move ! (1 ∷ []) $ feq_l ! (λ l.
           move ! (2 ∷ []) $ split ! $ move ! (1 ∷ []) $ peeks ! N.the_row (Is N.the_row) (shows 𝓛 N.the_row) r (w ∷ []) (λ ir.
           -- [the counts; the tokens; the list's last numbers; true; what is kept; _1; _2; _3; _4; _6; _7; _8; _9; _0; …]
           land ! (from ! (stop !)) (init ! 13 refl ((LL.lawful N.the_type N'.the_laws 𝓛).typed r _ ir).0) $
-          move ! (1 ∷ []) $ split ! $ lft_end ! tt $ move ! (0 ∷ 5 ∷ []) $ use2 𝓛 (later (‵ (froom arrTy l₅ 0))) (front-back 𝓛 T.the_row tt 8 xs len n l₅ (ν ∷ [])) $ await ! tt $
+          move ! (1 ∷ []) $ split ! $ lft_end ! tt $ move ! (0 ∷ 5 ∷ []) $ use2 𝓛 (later (‵ (froom arrTy l₅ 0))) (front_back 𝓛 T.the_row tt 8 xs len n l₅ (ν ∷ [])) $ await ! tt $
           -- [room for _5; κ's token; the counts; the list's last numbers; true; _1; _2; _3; _4; _6; _7; _8; _9; _0; …]
           returns ! (look ! 13 refl) $ forget ! 5 refl $ forget ! 6 refl $ forget ! 7 refl $ forget ! 8 refl $ forget ! 9 refl $ forget ! 10 refl $ forget ! 11 refl $ forget ! 12 refl $ forget ! 13 refl $
           move ! (13 ∷ 14 ∷ []) $ free1 ! $ move ! (5 ∷ 13 ∷ []) $ free1 ! $ move ! (5 ∷ 12 ∷ []) $ free1 ! $ move ! (5 ∷ 11 ∷ []) $ free1 ! $ move ! (5 ∷ 10 ∷ []) $ free1 ! $ move ! (0 ∷ 9 ∷ []) $ free1 ! $ move ! (4 ∷ 8 ∷ []) $ free1 ! $ move ! (4 ∷ 7 ∷ []) $ free1 ! $ move ! (4 ∷ 6 ∷ []) $ free1 ! $ move ! (4 ∷ 5 ∷ []) $ free1 ! $ free0 ! $
@@ -159,14 +159,14 @@ module _ {M : Type 1} {𝓤 : Ura M} (𝓛 : Logic 𝓤) (mem'' : Memory → SPr
           front_length : length (take n xs) ≡ n
           front_length = length-take-le n xs (omega (arith, len, within))
 
-          n-fits : n < 2 ^ 64
-          n-fits = omega (arith, within)
+          n_fits : n < 2 ^ 64
+          n_fits = omega (arith, within)
 
           room : Room T.the_row (length (take n xs))
           room = (omega (arith, front_length, within), omega (arith, front_length, within))
 
-          to-join : ℕ → GName → (Join 𝓛 mem'' run).Ghost
-          to-join ν δ = (((ν ∷ [], (κ, tt)), (full_share, (q, tt)), tt, (lent δ, (x, (c, tt))), (lentVal ∷ [], (s ∷ [], (u ∷ [], tt)))), tt)
+          to_join : ℕ → GName → (Join 𝓛 mem'' run).Ghost
+          to_join ν δ = (((ν ∷ [], (κ, tt)), (full_share, (q, tt)), tt, (lent δ, (x, (c, tt))), (lentVal ∷ [], (s ∷ [], (u ∷ [], tt)))), tt)
 
     walk : ent 𝓤 (on_entry 𝓛 f.signature (κ, tt) (q, tt) a at) (WpFn 𝓤 H 𝓣.C 𝓣.Λ code.function (v ∷ vint w64 n ∷ s ∷ u ∷ []) Post)
     walk =

@@ -2,7 +2,7 @@
 use native.Mathlib.Omega.{arith}
 use lib.ListN.{length-set}
 use borrow.Author.Rules.{rules}
-use Rattle.list_stores.proofs.Stores.{three-stores}
+use Rattle.list_stores.proofs.Stores.{three_stores}
 use Rattle.list_stores.proofs.put_point.Statement.{statement}
 use Rattle.list_stores.proofs.put_point.Tie as tie
 
@@ -34,7 +34,7 @@ same_length : tie.Need-same-length
 same_length c = search rules
 
 returns : tie.Need-returns
-returns c = let a = c.args in three-stores a.list.now a.at a.v.x a.v.y a.v.z
+returns c = let a = c.args in three_stores a.list.now a.at a.v.x a.v.y a.v.z
 
 pub put-point-spec : {M : Type 1} → statement M
 put-point-spec =

@@ -1,7 +1,7 @@
 -- `put_three` meets its contract: three stores.
 use mathlib.Core.Path.{◌∙◌}
 use borrow.Author.Rules.{rules}
-use Rattle.list_stores.proofs.Stores.{three-stores}
+use Rattle.list_stores.proofs.Stores.{three_stores}
 use Rattle.list_stores.proofs.put_three.Statement.{statement}
 use Rattle.list_stores.proofs.put_three.Tie as tie
 
@@ -28,7 +28,7 @@ returns c =
     let i = c.before.before.before.before.before.before in
     let j = i.before.before.before.before in
     let a = j.before.before.before.args in
-    c.before.before.store3.ensures ∙ rw (i.store2.ensures, j.store.ensures) (three-stores a.list.now a.at a.a a.b a.c)
+    c.before.before.store3.ensures ∙ rw (i.store2.ensures, j.store.ensures) (three_stores a.list.now a.at a.a a.b a.c)
 
 pub put-three-spec : {M : Type 1} → statement M
 put-three-spec =

@@ -17,8 +17,8 @@ same_length c = search rules
 returns : tie.Need-returns
 returns c = search rules
 
-returns-2 : tie.Need-returns-2
-returns-2 c = sym (set_out c.before.args.list.now c.before.args.at c.before.args.v c.if1.false)
+returns_2 : tie.Need-returns-2
+returns_2 c = sym (set_out c.before.args.list.now c.before.args.at c.before.args.v c.if1.false)
 
 pub store_spec : {M : Type 1} → statement M
-store_spec = tie.close (tie.spec mul-list slice-write-list same_length returns returns-2)
+store_spec = tie.close (tie.spec mul-list slice-write-list same_length returns returns_2)

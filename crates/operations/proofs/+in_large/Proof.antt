@@ -17,18 +17,18 @@ use Rattle.operations.proofs.with_room.Reads as with-room-reads
 use Rattle.operations.proofs.+in_large.{statement}
 use Rattle.operations.proofs.+in_large.Tie.{close}
 
-abbrev μ-in-large : Measures 7 in-large-kinds.ps ℕ
-μ-in-large κs a = 0
+abbrev μ_in_large : Measures 7 in-large-kinds.ps ℕ
+μ_in_large κs a = 0
 
-abbrev in-large-at : ℕ → In 7 in-large-kinds.ps
-in-large-at t = and 7 in-large-kinds.ps (is 7 in-large-kinds.ps μ-in-large t) in-large.Pre
+abbrev in_large_at : ℕ → In 7 in-large-kinds.ps
+in_large_at t = and 7 in-large-kinds.ps (is 7 in-large-kinds.ps μ_in_large t) in-large.Pre
 
-abbrev in-large-below : ℕ → In 7 in-large-kinds.ps
-in-large-below t = and 7 in-large-kinds.ps (falls 7 in-large-kinds.ps ◌<◌ μ-in-large t) in-large.Pre
+abbrev in_large_below : ℕ → In 7 in-large-kinds.ps
+in_large_below t = and 7 in-large-kinds.ps (falls 7 in-large-kinds.ps ◌<◌ μ_in_large t) in-large.Pre
 
 -- ---- what the attempt answers
-module _ (t : ℕ) (k : in-large-lts.After-with-room (with-room-reads.Asked, with-room-reads.Learnt, in-large-below t, in-large.Post) (in-large-at t) in-large.Post) where
-  abbrev start : in-large-lts.Start (with-room-reads.Asked, with-room-reads.Learnt, in-large-below t, in-large.Post) (in-large-at t) in-large.Post
+module _ (t : ℕ) (k : in-large-lts.After-with-room (with-room-reads.Asked, with-room-reads.Learnt, in_large_below t, in-large.Post) (in_large_at t) in-large.Post) where
+  abbrev start : in-large-lts.Start (with-room-reads.Asked, with-room-reads.Learnt, in_large_below t, in-large.Post) (in_large_at t) in-large.Post
   start = k.before.before.before.before.before.before.before.before.before.before.before.before
 
   abbrev a : Solid
@@ -49,44 +49,44 @@ module _ (t : ℕ) (k : in-large-lts.After-with-room (with-room-reads.Asked, wit
   never : k.with-room.result ≡ Full → ⊥
   never e = (told e).1 (omega arith)
 
-in-large-with-room-requires : (t : ℕ) → in-large-lts.Need-with-room-requires (with-room-reads.Asked, with-room-reads.Learnt, in-large-below t, in-large.Post) (in-large-at t) in-large.Post
-in-large-with-room-requires t c κs = c.before.before.before.before.before.before.before.before.before.before.before.requires.1
+in_large_with_room_requires : (t : ℕ) → in-large-lts.Need-with-room-requires (with-room-reads.Asked, with-room-reads.Learnt, in_large_below t, in-large.Post) (in_large_at t) in-large.Post
+in_large_with_room_requires t c κs = c.before.before.before.before.before.before.before.before.before.before.before.requires.1
 
-in-large-enum-known-tried : (t : ℕ) → in-large-lts.Need-enum-known-tried (with-room-reads.Asked, with-room-reads.Learnt, in-large-below t, in-large.Post) (in-large-at t) in-large.Post
-in-large-enum-known-tried t c = search rules
+in_large_enum_known_tried : (t : ℕ) → in-large-lts.Need-enum-known-tried (with-room-reads.Asked, with-room-reads.Learnt, in_large_below t, in-large.Post) (in_large_at t) in-large.Post
+in_large_enum_known_tried t c = search rules
 
-in-large-enum-told : (t : ℕ) → in-large-lts.Need-enum-told (with-room-reads.Asked, with-room-reads.Learnt, in-large-below t, in-large.Post) (in-large-at t) in-large.Post
-in-large-enum-told t c = search rules
+in_large_enum_told : (t : ℕ) → in-large-lts.Need-enum-told (with-room-reads.Asked, with-room-reads.Learnt, in_large_below t, in-large.Post) (in_large_at t) in-large.Post
+in_large_enum_told t c = search rules
 
-in-large-in-large-requires : (t : ℕ) → in-large-lts.Need-in-large-requires (with-room-reads.Asked, with-room-reads.Learnt, in-large-below t, in-large.Post) (in-large-at t) in-large.Post
-in-large-in-large-requires t c κs = absurd (never t c.before.before.before.before.before.before.before.before.before.before.before c.before.before.before.enum_told.given.1)
+in_large_in_large_requires : (t : ℕ) → in-large-lts.Need-in-large-requires (with-room-reads.Asked, with-room-reads.Learnt, in_large_below t, in-large.Post) (in_large_at t) in-large.Post
+in_large_in_large_requires t c κs = absurd (never t c.before.before.before.before.before.before.before.before.before.before.before c.before.before.before.enum_told.given.1)
 
-in-large-same-length : (t : ℕ) → in-large-lts.Need-same-length (with-room-reads.Asked, with-room-reads.Learnt, in-large-below t, in-large.Post) (in-large-at t) in-large.Post
-in-large-same-length t c = search rules
+in_large_same_length : (t : ℕ) → in-large-lts.Need-same-length (with-room-reads.Asked, with-room-reads.Learnt, in_large_below t, in-large.Post) (in_large_at t) in-large.Post
+in_large_same_length t c = search rules
 
-in-large-same-length-2 : (t : ℕ) → in-large-lts.Need-same-length-2 (with-room-reads.Asked, with-room-reads.Learnt, in-large-below t, in-large.Post) (in-large-at t) in-large.Post
-in-large-same-length-2 t c = search rules
+in_large_same_length_2 : (t : ℕ) → in-large-lts.Need-same-length-2 (with-room-reads.Asked, with-room-reads.Learnt, in_large_below t, in-large.Post) (in_large_at t) in-large.Post
+in_large_same_length_2 t c = search rules
 
-in-large-same-length-3 : (t : ℕ) → in-large-lts.Need-same-length-3 (with-room-reads.Asked, with-room-reads.Learnt, in-large-below t, in-large.Post) (in-large-at t) in-large.Post
-in-large-same-length-3 t c = search rules
+in_large_same_length_3 : (t : ℕ) → in-large-lts.Need-same-length-3 (with-room-reads.Asked, with-room-reads.Learnt, in_large_below t, in-large.Post) (in_large_at t) in-large.Post
+in_large_same_length_3 t c = search rules
 
-in-large-returns : (t : ℕ) → in-large-lts.Need-returns (with-room-reads.Asked, with-room-reads.Learnt, in-large-below t, in-large.Post) (in-large-at t) in-large.Post
-in-large-returns t c = told t c.before.before.before.before.before.before.before.before.before c.before.tried.given.1
+in_large_returns : (t : ℕ) → in-large-lts.Need-returns (with-room-reads.Asked, with-room-reads.Learnt, in_large_below t, in-large.Post) (in_large_at t) in-large.Post
+in_large_returns t c = told t c.before.before.before.before.before.before.before.before.before c.before.tried.given.1
 
-in-large-same-length-4 : (t : ℕ) → in-large-lts.Need-same-length-4 (with-room-reads.Asked, with-room-reads.Learnt, in-large-below t, in-large.Post) (in-large-at t) in-large.Post
-in-large-same-length-4 t c = search rules
+in_large_same_length_4 : (t : ℕ) → in-large-lts.Need-same-length-4 (with-room-reads.Asked, with-room-reads.Learnt, in_large_below t, in-large.Post) (in_large_at t) in-large.Post
+in_large_same_length_4 t c = search rules
 
-in-large-same-length-5 : (t : ℕ) → in-large-lts.Need-same-length-5 (with-room-reads.Asked, with-room-reads.Learnt, in-large-below t, in-large.Post) (in-large-at t) in-large.Post
-in-large-same-length-5 t c = search rules
+in_large_same_length_5 : (t : ℕ) → in-large-lts.Need-same-length-5 (with-room-reads.Asked, with-room-reads.Learnt, in_large_below t, in-large.Post) (in_large_at t) in-large.Post
+in_large_same_length_5 t c = search rules
 
-in-large-same-length-6 : (t : ℕ) → in-large-lts.Need-same-length-6 (with-room-reads.Asked, with-room-reads.Learnt, in-large-below t, in-large.Post) (in-large-at t) in-large.Post
-in-large-same-length-6 t c = search rules
+in_large_same_length_6 : (t : ℕ) → in-large-lts.Need-same-length-6 (with-room-reads.Asked, with-room-reads.Learnt, in_large_below t, in-large.Post) (in_large_at t) in-large.Post
+in_large_same_length_6 t c = search rules
 
-in-large-returns-2 : (t : ℕ) → in-large-lts.Need-returns-2 (with-room-reads.Asked, with-room-reads.Learnt, in-large-below t, in-large.Post) (in-large-at t) in-large.Post
-in-large-returns-2 t c = absurd (never t c.before.before.before.before.before.before.before.before.before.before.before.before.before.before.before.before.before.before c.before.before.before.before.before.before.before.before.before.before.enum_told.given.1)
+in_large_returns_2 : (t : ℕ) → in-large-lts.Need-returns-2 (with-room-reads.Asked, with-room-reads.Learnt, in_large_below t, in-large.Post) (in_large_at t) in-large.Post
+in_large_returns_2 t c = absurd (never t c.before.before.before.before.before.before.before.before.before.before.before.before.before.before.before.before.before.before c.before.before.before.before.before.before.before.before.before.before.enum_told.given.1)
 
 pub +in-large-spec : {M : Type 1} → statement M
-+in-large-spec = close μ-in-large λ t. in-large-lts.spec (with-room-reads.Asked, with-room-reads.Learnt, in-large-below t, in-large.Post)
-    (in-large-at t) in-large.Post (in-large-with-room-requires t) (in-large-enum-known-tried t) (in-large-enum-told t) (in-large-in-large-requires t)
-    (in-large-same-length t) (in-large-same-length-2 t) (in-large-same-length-3 t) (in-large-returns t) (in-large-same-length-4 t)
-    (in-large-same-length-5 t) (in-large-same-length-6 t) (in-large-returns-2 t)
++in-large-spec = close μ_in_large λ t. in-large-lts.spec (with-room-reads.Asked, with-room-reads.Learnt, in_large_below t, in-large.Post)
+    (in_large_at t) in-large.Post (in_large_with_room_requires t) (in_large_enum_known_tried t) (in_large_enum_told t) (in_large_in_large_requires t)
+    (in_large_same_length t) (in_large_same_length_2 t) (in_large_same_length_3 t) (in_large_returns t) (in_large_same_length_4 t)
+    (in_large_same_length_5 t) (in_large_same_length_6 t) (in_large_returns_2 t)

@@ -22,8 +22,8 @@ enum-known-tried c = search rules
 same_length : tie.Need-same-length
 same_length c = search rules
 
-same-length-2 : tie.Need-same-length-2
-same-length-2 c = search rules
+same_length_2 : tie.Need-same-length-2
+same_length_2 c = search rules
 
 same-length-3 : tie.Need-same-length-3
 same-length-3 c = search rules
@@ -53,8 +53,8 @@ same-length-5 c = search rules
 same-length-6 : tie.Need-same-length-6
 same-length-6 c = search rules
 
-returns-2 : tie.Need-returns-2
-returns-2 c =
+returns_2 : tie.Need-returns-2
+returns_2 c =
     let s = c.before.before.before.before.before.before.before.before.before.before.before.before.before.before.before.before.before.before.before.before.before.before.before.before.before.before.before.before.before.before.before in
     let a = solid s.args.ap.now s.args.ac.now in
     let b = solid s.args.bp.now s.args.bc.now in
@@ -67,4 +67,4 @@ returns-2 c =
     subst (λ (l : Lent). Operated s.args.op a b l y.result end) full.0 y.ensures
 
 pub admitted-spec : {M : Type 1} → statement M
-admitted-spec = tie.close (tie.spec slice-aggregate-attempt attempt-requires enum-known-tried same_length same-length-2 same-length-3 returns enum_told in-large-requires same-length-4 same-length-5 same-length-6 returns-2)
+admitted-spec = tie.close (tie.spec slice-aggregate-attempt attempt-requires enum-known-tried same_length same_length_2 same-length-3 returns enum_told in-large-requires same-length-4 same-length-5 same-length-6 returns_2)

@@ -25,8 +25,8 @@ refused-requires c κs = search rules
 same_length : tie.Need-same-length
 same_length c = search rules
 
-same-length-2 : tie.Need-same-length-2
-same-length-2 c = search rules
+same_length_2 : tie.Need-same-length-2
+same_length_2 c = search rules
 
 same-length-3 : tie.Need-same-length-3
 same-length-3 c = search rules
@@ -42,9 +42,9 @@ returns c =
     ∙ sym
     (by_code a b l _ s.args.code (sym c.before.before.before.before.before.before.before.before.before.before.before.before.before.of_code.ensures ∙ c.before.before.before.before.before.before.before.before.before.before.before.op.given.1))
 
-returns-2 : tie.Need-returns-2
+returns_2 : tie.Need-returns-2
 unfolding operation
-returns-2 c = rw (c.refused.ensures, sym c.before.before.before.of_code.ensures ∙ c.before.enum_told.given.1)
+returns_2 c = rw (c.refused.ensures, sym c.before.before.before.of_code.ensures ∙ c.before.enum_told.given.1)
 
 pub operate-spec : {M : Type 1} → statement M
 operate-spec =
@@ -56,7 +56,7 @@ operate-spec =
     enum_told
     refused-requires
     same_length
-    same-length-2
+    same_length_2
     same-length-3
     returns
-    returns-2)
+    returns_2)

@@ -15,8 +15,8 @@ attempt-requires c κs = search rules
 same_length : tie.Need-same-length
 same_length c = search rules
 
-same-length-2 : tie.Need-same-length-2
-same-length-2 c = search rules
+same_length_2 : tie.Need-same-length-2
+same_length_2 c = search rules
 
 same-length-3 : tie.Need-same-length-3
 same-length-3 c = search rules
@@ -29,4 +29,4 @@ returns c =
     subst (λ n. Attempted s.args.op (solid s.args.ap.now s.args.ac.now) (solid s.args.bp.now s.args.bc.now) n (lists s.args.points.now s.args.corners.now s.args.origins.now) x.result (lists x.new.1.1.1.1.1.1.0 x.new.1.1.1.1.1.1.1.0 x.new.1.1.1.1.1.1.1.1.0)) long x.ensures
 
 pub with-room-spec : {M : Type 1} → statement M
-with-room-spec = tie.close (tie.spec attempt-requires same_length same-length-2 same-length-3 returns)
+with-room-spec = tie.close (tie.spec attempt-requires same_length same_length_2 same-length-3 returns)

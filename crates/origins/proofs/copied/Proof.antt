@@ -19,12 +19,12 @@ copy-corners-requires c κs = search rules
 same_length : tie.Need-same-length
 same_length c = search rules
 
-returns-2 : tie.Need-returns-2
+returns_2 : tie.Need-returns-2
 unfolding show
-returns-2 c =
+returns_2 c =
     let e = c.before.before.before.before in
     rw (c.before.before.copy-corners.ensures, sym e.before.shown.ensures, le-ltb _ _ e.if1.false)
 
 pub copied-spec : {M : Type 1} → statement M
 copied-spec =
-    tie.close (tie.spec shown-requires returns copy-corners-requires same_length returns-2)
+    tie.close (tie.spec shown-requires returns copy-corners-requires same_length returns_2)

@@ -56,9 +56,9 @@ part-result-start-2 c = search rules
 part-result-end-2 : tie.Need-slice-bounds-result-end-2
 part-result-end-2 c = search rules
 
-returns-2 : tie.Need-returns-2
+returns_2 : tie.Need-returns-2
 unfolding shown
-returns-2 c = rw (le-ltb _ _ c.before.before.if1.false, lt-ltb _ _ c.before.if2.true, three, bytes)
+returns_2 c = rw (le-ltb _ _ c.before.before.if1.false, lt-ltb _ _ c.before.if2.true, three, bytes)
 
 slice-aggregate-result : tie.Need-slice-aggregate-result
 slice-aggregate-result c = search rules
@@ -84,6 +84,6 @@ shown-spec =
     sub-result-2
     part-result-start-2
     part-result-end-2
-    returns-2
+    returns_2
     slice-aggregate-result
     returns-3)

@@ -26,8 +26,8 @@ returns : tie.Need-returns
 unfolding missing
 returns c = rw (c.before.before.enum_told.given.1, c.before.blank.ensures)
 
-returns-2 : tie.Need-returns-2
-returns-2 c = rw c.before.enum-told2.given.1 c.beyond.ensures
+returns_2 : tie.Need-returns-2
+returns_2 c = rw c.before.enum-told2.given.1 c.beyond.ensures
 
 returns-3 : tie.Need-returns-3
 unfolding present
@@ -44,5 +44,5 @@ has-spec =
     enum-told-3
     blank-requires-2
     returns
-    returns-2
+    returns_2
     returns-3)

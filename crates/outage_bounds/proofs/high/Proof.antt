@@ -1,16 +1,16 @@
 -- `high` meets its contract.
 use lib.Ieee.{of_bits}
-use Rattle.outage_rows.specs.Bounds.{high-bound}
+use Rattle.outage_rows.specs.Bounds.{high_bound}
 use Rattle.outage_bounds.proofs.high.Statement.{statement}
 use Rattle.outage_bounds.proofs.high.Tie as tie
 
 returns : tie.Need-returns
-unfolding high-bound of_bits
+unfolding high_bound of_bits
 returns c = rw c.if1.true
 
-returns-2 : tie.Need-returns-2
-unfolding high-bound
-returns-2 c = rw c.if1.false
+returns_2 : tie.Need-returns-2
+unfolding high_bound
+returns_2 c = rw c.if1.false
 
 pub high-spec : {M : Type 1} → statement M
-high-spec = tie.close (tie.spec returns returns-2)
+high-spec = tie.close (tie.spec returns returns_2)

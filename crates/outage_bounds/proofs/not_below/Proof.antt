@@ -3,7 +3,7 @@ use mathlib.Core.Path.{◌≡◌, refl}
 use mathlib.Core.Bool.{Bool, true, false, not, ◌||◌}
 use lib.Ieee.{lt}
 use Rattle.list_words.specs.Lists.{any}
-use Rattle.outage_rows.specs.Bounds.{not-below}
+use Rattle.outage_rows.specs.Bounds.{not_below}
 use Rattle.outage_bounds.proofs.not_below.Statement.{statement}
 use Rattle.outage_bounds.proofs.not_below.Tie as tie
 
@@ -14,7 +14,7 @@ three false false true = refl
 three false false false = refl
 
 returns : tie.Need-returns
-unfolding not-below any
+unfolding not_below any
 returns c =
     let b = c.before.before.before.args.b in
     three (not (lt b.low.x b.high.x)) (not (lt b.low.y b.high.y)) (not (lt b.low.z b.high.z))

@@ -2,8 +2,8 @@
 use mathlib.Core.Path.{sym, ap, ◌∙◌}
 use Rattle.outage_rows.proofs.Rows.{whole}
 use Rattle.solids.specs.Refusals.{in_order}
-use Rattle.outage_rows.specs.Boxed.{check-row, boxed}
-use Rattle.outage_bounds.specs.Words.{check-bounds}
+use Rattle.outage_rows.specs.Boxed.{check_row, boxed}
+use Rattle.outage_bounds.specs.Words.{check_bounds}
 use Rattle.outage_boxes.specs.Words.{made}
 use borrow.Author.Rules.{rules}
 use Rattle.outage_boxes.proofs.boxed.Statement.{statement}
@@ -16,7 +16,7 @@ refused-requires : tie.Need-refused-requires
 refused-requires c κs = search rules
 
 returns : tie.Need-returns
-unfolding boxed check-row in_order
+unfolding boxed check_row in_order
 returns c = rw (c.refused.ensures, ← c.before.before.no_row.ensures, c.before.if1.true)
 
 decode-requires : tie.Need-decode-requires
@@ -28,12 +28,12 @@ make-requires c κs = search rules
 same_length : tie.Need-same-length
 same_length c = search rules
 
-same-length-2 : tie.Need-same-length-2
-same-length-2 c = search rules
+same_length_2 : tie.Need-same-length-2
+same_length_2 c = search rules
 
-returns-2 : tie.Need-returns-2
-unfolding boxed check-row check-bounds in_order
-returns-2 c =
+returns_2 : tie.Need-returns-2
+unfolding boxed check_row check_bounds in_order
+returns_2 c =
     let m = c.before.before.before.before in
     let d = m.before.before.before in
     let a = d.before.before.before.before.before.before.args in
@@ -49,5 +49,5 @@ boxed-spec =
     decode-requires
     make-requires
     same_length
-    same-length-2
-    returns-2)
+    same_length_2
+    returns_2)

@@ -20,8 +20,8 @@ end-requires-3 c κs = search rules
 returns : tie.Need-returns
 returns c =
     let a = c.before.before.before.args in
-    let by-x = c.before.before.end.ensures ∙ ap (λ m. cond (eqb (m % 2) 1) a.b.high.x a.b.low.x) (sym (div-one a.n)) in
-    λ j. record { x = by-x j; y = c.before.end2.ensures j; z = c.end3.ensures j }
+    let by_x = c.before.before.end.ensures ∙ ap (λ m. cond (eqb (m % 2) 1) a.b.high.x a.b.low.x) (sym (div-one a.n)) in
+    λ j. record { x = by_x j; y = c.before.end2.ensures j; z = c.end3.ensures j }
 
 pub corner-spec : {M : Type 1} → statement M
 corner-spec = tie.close (tie.spec end-requires end-requires-2 end-requires-3 returns)

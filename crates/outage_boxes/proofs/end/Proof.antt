@@ -6,8 +6,8 @@ use Rattle.outage_boxes.proofs.end.Tie as tie
 returns : tie.Need-returns
 returns c = rw c.if1.true
 
-returns-2 : tie.Need-returns-2
-returns-2 c = rw (ne_eqb _ 1 c.if1.false)
+returns_2 : tie.Need-returns-2
+returns_2 c = rw (ne_eqb _ 1 c.if1.false)
 
 pub end-spec : {M : Type 1} → statement M
-end-spec = tie.close (tie.spec returns returns-2)
+end-spec = tie.close (tie.spec returns returns_2)

@@ -9,20 +9,20 @@ use lib.Ieee.{Float}
 use borrow.Author.Tests.{ltb-false}
 use Rattle.list_words.proofs.Tests.{or-false}
 use Rattle.solids.specs.declared.Verdict.{Verdict}
-use Rattle.solids.specs.Refusals.{answer-of, given, in_order}
+use Rattle.solids.specs.Refusals.{answer_of, given, in_order}
 use Rattle.housefile.specs.Reader.{too_short}
 use Rattle.outage_rows.specs.declared.Row.{Row}
 use Rattle.outage_rows.specs.Bounds.{bounds}
 use Rattle.outage_rows.specs.Box.{box}
 use Rattle.outage_rows.specs.Boxed.{Boxing, boxing}
-use Rattle.outage_rows.proofs.Computing.{the-rule}
+use Rattle.outage_rows.proofs.Computing.{the_rule}
 use borrow.Author.Rules.{rules}
 use Rattle.outage_boxes.proofs.make.Statement.{statement}
 use Rattle.outage_boxes.proofs.make.Tie as tie
 
 -- what is made, by what the checks on the bounds say and whether a list is too short
 abbrev checked : Row → List Float → List ℕ → Verdict → Bool → Boxing
-checked r ps cs v short = boxing (in_order (v ∷ given (answer-of 8) short ∷ [])) r.unit (box (bounds r)) ps cs
+checked r ps cs v short = boxing (in_order (v ∷ given (answer_of 8) short ∷ [])) r.unit (box (bounds r)) ps cs
 
 check-requires : tie.Need-check-requires
 check-requires c κs = search rules
@@ -49,9 +49,9 @@ enum_told c = search rules
 refused-requires-2 : tie.Need-refused-requires-2
 refused-requires-2 c κs = search rules
 
-returns-2 : tie.Need-returns-2
-unfolding in_order too_short the-rule
-returns-2 c =
+returns_2 : tie.Need-returns-2
+unfolding in_order too_short the_rule
+returns_2 c =
     let t = c.before.before in
     let k = t.before.before in
     let a = k.before.before.before.args in
@@ -73,11 +73,11 @@ put-facets-requires c κs =
 same_length : tie.Need-same-length
 same_length c = search rules
 
-same-length-2 : tie.Need-same-length-2
-same-length-2 c = search rules
+same_length_2 : tie.Need-same-length-2
+same_length_2 c = search rules
 
 returns-3 : tie.Need-returns-3
-unfolding in_order too_short the-rule
+unfolding in_order too_short the_rule
 returns-3 c =
     let f = c.before.before in
     let p = f.before.before.before.before in
@@ -98,10 +98,10 @@ make_spec =
     returns
     enum_told
     refused-requires-2
-    returns-2
+    returns_2
     bounds-requires
     put-points-requires
     put-facets-requires
     same_length
-    same-length-2
+    same_length_2
     returns-3)

@@ -1,6 +1,6 @@
 -- `put_face` meets its contract: two triangles, one behind the other.
 use mathlib.Core.List.{[], ◌∷◌}
-use Rattle.list_stores.proofs.Stores.{sets-append}
+use Rattle.list_stores.proofs.Stores.{sets_append}
 use borrow.Author.Rules.{rules}
 use Rattle.outage_boxes.proofs.put_face.Statement.{statement}
 use Rattle.outage_boxes.proofs.put_face.Tie as tie
@@ -32,18 +32,18 @@ returns c =
     let p = q.before.before.before.before in
     let t = p.before.before in
     let a = t.before.before.args in
-    rw (q.put-three2.ensures, p.put_three.ensures, t.if1.true) (sets-append a.corners.now a.at (a.a ∷ a.b ∷ a.d ∷ []) (a.a ∷ a.d ∷ a.c ∷ []))
+    rw (q.put-three2.ensures, p.put_three.ensures, t.if1.true) (sets_append a.corners.now a.at (a.a ∷ a.b ∷ a.d ∷ []) (a.a ∷ a.d ∷ a.c ∷ []))
 
-same-length-2 : tie.Need-same-length-2
-same-length-2 c = search rules
+same_length_2 : tie.Need-same-length-2
+same_length_2 c = search rules
 
-returns-2 : tie.Need-returns-2
-returns-2 c =
+returns_2 : tie.Need-returns-2
+returns_2 c =
     let q = c.before.before in
     let p = q.before.before.before.before in
     let t = p.before.before in
     let a = t.before.before.args in
-    rw (q.put-three4.ensures, p.put-three3.ensures, t.if1.false) (sets-append a.corners.now a.at (a.a ∷ a.d ∷ a.b ∷ []) (a.a ∷ a.c ∷ a.d ∷ []))
+    rw (q.put-three4.ensures, p.put-three3.ensures, t.if1.false) (sets_append a.corners.now a.at (a.a ∷ a.d ∷ a.b ∷ []) (a.a ∷ a.c ∷ a.d ∷ []))
 
 pub put-face-spec : {M : Type 1} → statement M
 put-face-spec =
@@ -57,5 +57,5 @@ put-face-spec =
     put-three-requires-4
     same_length
     returns
-    same-length-2
-    returns-2)
+    same_length_2
+    returns_2)

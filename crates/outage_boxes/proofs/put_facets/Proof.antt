@@ -3,18 +3,18 @@ use mathlib.Core.Path.{refl, ◌∙◌}
 use mathlib.Core.List.{List, flat_map}
 use Prim.Native.Nat.{ℕ}
 use lib.ListN.{get_or}
-use Rattle.list_stores.proofs.Runs.{run_none, run-next, run-all}
-use Rattle.list_stores.proofs.Stores.{sets-onto}
+use Rattle.list_stores.proofs.Runs.{run_none, run_next, run_all}
+use Rattle.list_stores.proofs.Stores.{sets_onto}
 use Rattle.points.specs.declared.Axis.TheVariants.{X}
 use Rattle.outage_rows.specs.Box.{faces, cut}
-use Rattle.outage_rows.proofs.Computing.{the-rule}
+use Rattle.outage_rows.proofs.Computing.{the_rule}
 use borrow.Author.Rules.{rules}
 use Rattle.outage_boxes.proofs.put_facets.Statement.{statement}
 use Rattle.outage_boxes.proofs.put_facets.Tie as tie
 
 -- the facets of face i
-abbrev facets-of : ℕ → List ℕ
-facets-of i = cut (get_or faces i (X, 0))
+abbrev facets_of : ℕ → List ℕ
+facets_of i = cut (get_or faces i (X, 0))
 
 put-face-requires : tie.Need-put-face-requires
 put-face-requires c κs = search rules
@@ -38,7 +38,7 @@ same_length : tie.Need-same-length
 same_length c = search rules
 
 returns : tie.Need-returns
-unfolding the-rule
+unfolding the_rule
 returns c =
     let p6 = c.before.before in
     let p5 = p6.before.before.before.before in
@@ -48,14 +48,14 @@ returns c =
     let p1 = p2.before.before.before.before in
     let s = p1.before.before.before in
     let old = s.args.corners.now in
-    let r0 = run_none facets-of old 0 in
-    let r1 = run-next r0 p1.put-face.ensures refl in
-    let r2 = run-next r1 p2.put-face2.ensures refl in
-    let r3 = run-next r2 p3.put-face3.ensures refl in
-    let r4 = run-next r3 p4.put-face4.ensures refl in
-    let r5 = run-next r4 p5.put-face5.ensures refl in
-    let r6 = run-next r5 p6.put-face6.ensures refl in
-    (run-all r6 refl).0 ∙ sets-onto old (flat_map cut faces) s.requires
+    let r0 = run_none facets_of old 0 in
+    let r1 = run_next r0 p1.put-face.ensures refl in
+    let r2 = run_next r1 p2.put-face2.ensures refl in
+    let r3 = run_next r2 p3.put-face3.ensures refl in
+    let r4 = run_next r3 p4.put-face4.ensures refl in
+    let r5 = run_next r4 p5.put-face5.ensures refl in
+    let r6 = run_next r5 p6.put-face6.ensures refl in
+    (run_all r6 refl).0 ∙ sets_onto old (flat_map cut faces) s.requires
 
 pub put-facets-spec : {M : Type 1} → statement M
 put-facets-spec =

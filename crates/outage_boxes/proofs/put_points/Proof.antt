@@ -9,16 +9,16 @@ use lib.Seq.{sets, length-sets}
 use lib.Ieee.{Float}
 use borrow.Author.Rules.{rules}
 use Rattle.list_words.specs.Lists.{up_to}
-use Rattle.list_stores.proofs.Stores.{sets-onto, run-next}
+use Rattle.list_stores.proofs.Stores.{sets_onto, run_next}
 use Rattle.points.specs.Points.{coordinates}
 use Rattle.outage_rows.specs.declared.Span.{Span}
-use Rattle.outage_rows.specs.Box.{corner-point, box}
+use Rattle.outage_rows.specs.Box.{corner_point, box}
 use Rattle.outage_boxes.proofs.put_points.Statement.{statement}
 use Rattle.outage_boxes.proofs.put_points.Tie as tie
 
 -- the numbers of a corner
 abbrev numbers : Span → ℕ → List Float
-numbers b n = coordinates (corner-point b n)
+numbers b n = coordinates (corner_point b n)
 
 abbrev invariant-loop : tie.invariant-loop
 invariant-loop b points₀ n₀ points n = (n ≤ 8) × (length points ≡ length points₀) × (points ≡ sets points₀ 0 (flat_map (numbers b) (up_to n)))
@@ -50,7 +50,7 @@ loop-again c =
     let p = c.before.before in
     let l = p.before.before.before.before in
     let a = l.before.before.args in
-    let e = run-next (numbers a.b) 3 (λ n. refl) a.points.now 0 l.loop.n in (
+    let e = run_next (numbers a.b) 3 (λ n. refl) a.points.now 0 l.loop.n in (
       omega arith,
       rw p.put-point.ensures (length-sets l.loop.points (3 * l.loop.n) (coordinates _) ∙ l.loop.invariant.1),
       rw (p.put-point.ensures, p.before.before.corner.ensures, l.loop.invariant.2) (rw (zero-add (3 * l.loop.n)) at e),
@@ -65,7 +65,7 @@ returns c =
     let l = c.before in
     let a = l.before.before.args in
     rw (l.loop.invariant.2, le_antisymm l.loop.invariant.0 c.loop-test.false)
-    (sets-onto a.points.now (flat_map (numbers a.b) (up_to 8)) l.before.before.requires)
+    (sets_onto a.points.now (flat_map (numbers a.b) (up_to 8)) l.before.before.requires)
 
 pub put-points-spec : {M : Type 1} → statement M
 put-points-spec =

@@ -14,9 +14,9 @@ returns c = rw (ne_eqb _ 53 c.if1.true)
 number-at-requires : tie.Need-number-at-requires
 number-at-requires c κs = search rules
 
-returns-2 : tie.Need-returns-2
+returns_2 : tie.Need-returns-2
 unfolding no_row number
-returns-2 c = rw (c.before.before.if1.false, ne_eqb _ 22354 (λ e. c.if2.true (c.before.number_at.ensures.0 ∙ e)))
+returns_2 c = rw (c.before.before.if1.false, ne_eqb _ 22354 (λ e. c.if2.true (c.before.number_at.ensures.0 ∙ e)))
 
 flag-requires : tie.Need-flag-requires
 flag-requires c κs = search rules
@@ -43,7 +43,7 @@ no-row-spec =
     (tie.spec
     returns
     number-at-requires
-    returns-2
+    returns_2
     flag-requires
     returns-3
     flag-requires-2

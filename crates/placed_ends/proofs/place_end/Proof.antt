@@ -31,7 +31,7 @@ returns c =
     let start = s.before.before.before.before.before in
     let fits : SFits w32 start.args.e.count = record { sfits = s.before.before.struct_told.given.1.0.1 } in
     let back = to_z-of_z w32 start.args.e.count fits in
-    placed_by _ _ start.args.e _ _ _ _ _ _ (s.before.starts-of.ensures ∙ ap below back) (t.before.stops-of.ensures ∙ ap above back) s.put-times.ensures t.put-times2.ensures
+    placed_by _ _ start.args.e _ _ _ _ _ _ (s.before.starts_of.ensures ∙ ap below back) (t.before.stops_of.ensures ∙ ap above back) s.put_times.ensures t.put-times2.ensures
 
 pub place-end-spec : {M : Type 1} → statement M
 place-end-spec = tie.close (tie.spec starts-of-requires put-times-requires stops-of-requires put-times-requires-2 same_length returns)

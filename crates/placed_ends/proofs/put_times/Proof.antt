@@ -5,13 +5,13 @@ use native.Mathlib.Nat.{sub-zero}
 use native.Mathlib.Omega.{arith}
 use borrow.Author.Rules.{rules}
 use lib.ListN.{length}
-use Rattle.placed_ends.specs.Words.{put-times}
-use Rattle.placed_ends.proofs.Placing.{both, times-step, times-end}
+use Rattle.placed_ends.specs.Words.{put_times}
+use Rattle.placed_ends.proofs.Placing.{both, times_step, times_end}
 use Rattle.placed_ends.proofs.put_times.Statement.{statement}
 use Rattle.placed_ends.proofs.put_times.Tie as tie
 
 abbrev invariant-loop : tie.invariant-loop
-invariant-loop list₀ side k n v at₀ i₀ list at i = (i ≤ n) × ((length list ≡ length list₀) × (put-times side v (n - i) (list, at) ≡ put-times side v n (list₀, k)))
+invariant-loop list₀ side k n v at₀ i₀ list at i = (i ≤ n) × ((length list ≡ length list₀) × (put_times side v (n - i) (list, at) ≡ put_times side v n (list₀, k)))
 
 abbrev decreases-loop : tie.decreases-loop
 decreases-loop list₀ side k n v at₀ i₀ list at i = n - i
@@ -34,8 +34,8 @@ loop-again c =
     let inv = u.before.before.before.loop.invariant in (
       search rules,
       (
-        u.put-once.auto.0 ∙ inv.1.0,
-        times-step _ _ _ _ (u.before.before.before.loop.list, u.before.before.before.loop.at) _ _ u.before.before.loop-test.true u.put-once.ensures.0 u.put-once.ensures.1 ∙ inv.1.1,
+        u.put_once.auto.0 ∙ inv.1.0,
+        times_step _ _ _ _ (u.before.before.before.loop.list, u.before.before.before.loop.at) _ _ u.before.before.loop-test.true u.put_once.ensures.0 u.put_once.ensures.1 ∙ inv.1.1,
       ),
     )
 
@@ -43,7 +43,7 @@ same_length : tie.Need-same-length invariant-loop decreases-loop
 same_length c = c.before.loop.invariant.1.0
 
 returns : tie.Need-returns invariant-loop decreases-loop
-returns c = both (sym (times-end _ _ _ _ (c.before.loop.list, c.before.loop.at) c.loop-test.false) ∙ c.before.loop.invariant.1.1)
+returns c = both (sym (times_end _ _ _ _ (c.before.loop.list, c.before.loop.at) c.loop-test.false) ∙ c.before.loop.invariant.1.1)
 
 pub put-times-spec : {M : Type 1} → statement M
 put-times-spec = tie.close (tie.spec invariant-loop decreases-loop loop-holds put-once-requires add-i loop-less loop-again same_length returns)

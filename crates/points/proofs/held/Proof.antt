@@ -11,9 +11,9 @@ returns : tie.Need-returns
 unfolding held
 returns c = rw (← c.before.between.ensures, c.if1.true)
 
-returns-2 : tie.Need-returns-2
+returns_2 : tie.Need-returns-2
 unfolding held
-returns-2 c = rw (← c.before.between.ensures, c.if1.false)
+returns_2 c = rw (← c.before.between.ensures, c.if1.false)
 
 pub held_spec : {M : Type 1} → statement M
-held_spec = tie.close (tie.spec between-requires returns returns-2)
+held_spec = tie.close (tie.spec between-requires returns returns_2)

@@ -1,6 +1,6 @@
 -- `pair_at` meets its contract: A's point and B's.
 use borrow.Author.Rules.{rules}
-use Rattle.points.specs.Points.{pair-at}
+use Rattle.points.specs.Points.{pair_at}
 use Rattle.points.proofs.pair_at.Statement.{statement}
 use Rattle.points.proofs.pair_at.Tie as tie
 
@@ -11,7 +11,7 @@ point-at-requires-2 : tie.Need-point-at-requires-2
 point-at-requires-2 c κs = search rules
 
 returns : tie.Need-returns
-unfolding pair-at
+unfolding pair_at
 returns c = rw (c.before.point_at.ensures, c.point-at2.ensures)
 
 pub pair-at-spec : {M : Type 1} → statement M

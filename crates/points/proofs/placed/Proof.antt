@@ -18,7 +18,7 @@ pair-at-requires c κs = search rules
 
 returns : tie.Need-returns
 unfolding placed
-returns c = rw (c.pair-at.ensures, c.before.share.ensures, c.before.before.gap2.ensures, c.before.before.before.gap.ensures)
+returns c = rw (c.pair_at.ensures, c.before.share.ensures, c.before.before.gap2.ensures, c.before.before.before.gap.ensures)
 
 pub placed-spec : {M : Type 1} → statement M
 placed-spec =

@@ -5,9 +5,9 @@ use Rattle.solids.specs.Solids.{solid}
 use lib.ListN.{length, drop, length-drop}
 use lib.Seq.{length-sets, length-take-le}
 use Rattle.edges.specs.Words.{Ready}
-use Rattle.layouts.specs.Words.{half-list}
-use Rattle.half_edges.proofs.Fill.{front-halves}
-use Rattle.ready_solids.proofs.Prepared.{few-halves, first_part, second-slice, second-part}
+use Rattle.layouts.specs.Words.{half_list}
+use Rattle.half_edges.proofs.Fill.{front_halves}
+use Rattle.ready_solids.proofs.Prepared.{few_halves, first_part, second_slice, second_part}
 use borrow.Author.Rules.{rules}
 use Rattle.ready_solids.proofs.both.Statement.{statement}
 use Rattle.ready_solids.proofs.both.Tie as tie
@@ -27,7 +27,7 @@ ready-requires c κs =
     let s = c.before.before.before.before.before.before.before.before in
     let a = solid s.args.ap.now s.args.ac.now in
     let b = solid s.args.bp.now s.args.bc.now in
-    (s.requires.0.0, (length-take-le 768 s.args.ends.now (omega (arith, s.requires.1.0)), omega (arith, few-halves a b s.requires.0.0 s.requires.0.1, s.requires.1.1)))
+    (s.requires.0.0, (length-take-le 768 s.args.ends.now (omega (arith, s.requires.1.0)), omega (arith, few_halves a b s.requires.0.0 s.requires.0.1, s.requires.1.1)))
 
 sub-ready : tie.Need-overflow-sub-ready
 sub-ready c = search rules
@@ -48,8 +48,8 @@ ready-requires-2 c κs =
     let b = solid s.args.bp.now s.args.bc.now in
     let x = c.before.before.before.before.before.before.ready in
     let d = drop 768 s.args.ends.now in
-    let e = ap length x.ensures.1.0 ∙ length-sets s.args.halves.now 0 (half-list a) in
-    (s.requires.0.1, (second-slice x.new.1.1.0 d x.ensures.0.room (rest s), omega (arith, e, few-halves a b s.requires.0.0 s.requires.0.1, s.requires.1.1)))
+    let e = ap length x.ensures.1.0 ∙ length-sets s.args.halves.now 0 (half_list a) in
+    (s.requires.0.1, (second_slice x.new.1.1.0 d x.ensures.0.room (rest s), omega (arith, e, few_halves a b s.requires.0.0 s.requires.0.1, s.requires.1.1)))
 
 sizes-requires : tie.Need-sizes-requires
 sizes-requires c κs = search rules
@@ -57,8 +57,8 @@ sizes-requires c κs = search rules
 same_length : tie.Need-same-length
 same_length c = search rules
 
-same-length-2 : tie.Need-same-length-2
-same-length-2 c = search rules
+same_length_2 : tie.Need-same-length-2
+same_length_2 c = search rules
 
 returns : tie.Need-returns
 returns c =
@@ -72,8 +72,8 @@ returns c =
     let behind = y.new.1.1.0 in (
       subst (Ready s.args.ap.now s.args.ac.now) (sym (first_part there behind d x.ensures.0.room y.ensures.0.room (rest s))) x.ensures.0,
       (
-        subst (Ready s.args.bp.now s.args.bc.now) (sym (second-part there behind d x.ensures.0.room y.ensures.0.room (rest s))) y.ensures.0,
-        (c.sizes.ensures, rw c.sizes.ensures (front-halves a b s.args.halves.now (omega (arith, few-halves a b s.requires.0.0 s.requires.0.1, s.requires.1.1)) x.ensures.1.0 y.ensures.1.0)),
+        subst (Ready s.args.bp.now s.args.bc.now) (sym (second_part there behind d x.ensures.0.room y.ensures.0.room (rest s))) y.ensures.0,
+        (c.sizes.ensures, rw c.sizes.ensures (front_halves a b s.args.halves.now (omega (arith, few_halves a b s.requires.0.0 s.requires.0.1, s.requires.1.1)) x.ensures.1.0 y.ensures.1.0)),
       ),
     )
 
@@ -91,5 +91,5 @@ both-spec =
     ready-requires-2
     sizes-requires
     same_length
-    same-length-2
+    same_length_2
     returns)

@@ -12,8 +12,8 @@ use Rattle.results.specs.Operation.{Lent, lists, called}
 use Rattle.layouts.specs.declared.Sizes.{Sizes}
 use Rattle.result_sizes.specs.Words.{Lists, Ends, Told}
 use Rattle.result_sizes.proofs.Vertices.{zeros}
-use Rattle.result_sizes.proofs.Measures.{nine-there, z-sized, vertices-there, columns-there}
-use Rattle.result_lists.proofs.Results.{points-fit, done-short, done-made}
+use Rattle.result_sizes.proofs.Measures.{nine_there, z_sized, vertices_there, columns_there}
+use Rattle.result_lists.proofs.Results.{points_fit, done_short, done_made}
 use Rattle.result_lists.proofs.attempt.Statement.{statement}
 use Rattle.result_lists.proofs.attempt.Tie as tie
 
@@ -58,14 +58,14 @@ module _ (k : tie.After-known-told) where
   told : Lists start.args.op a b z total (take nine halves) inc first crossed × Ends start.args.ap.now start.args.ac.now start.args.bp.now start.args.bc.now ends × (length inc ≡ 256) × (length first ≡ 641)
   told = subst (Told start.args.op start.args.ap.now start.args.ac.now start.args.bp.now start.args.bc.now ends halves inc first crossed) k.before.z.given.1 k.before.before.before.before.before.gather.ensures.0
 
-  nine-long : nine ≤ length halves
-  nine-long = nine-there a b z halves told.0.of-z told.0.of-hs
+  nine_long : nine ≤ length halves
+  nine_long = nine_there a b z halves told.0.of_z_list told.0.of_hs
 
   few : nine ≤ 4608
-  few = let sz = z-sized start.args.op a b start.pre.0 start.pre.1 told.0 in omega (arith, sz.fa, sz.fb)
+  few = let sz = z_sized start.args.op a b start.pre.0 start.pre.1 told.0 in omega (arith, sz.fa, sz.fb)
 
-  nine-taken : length (take nine halves) ≡ nine
-  nine-taken = length-take-le nine halves nine-long
+  nine_taken : length (take nine halves) ≡ nine
+  nine_taken = length-take-le nine halves nine_long
 
 gather-requires : tie.Need-gather-requires
 gather-requires c κs = let s = c.before.before.before.before.before.before.before.before.before.before.before.before.before in (s.requires.0, s.requires.1, s.requires.2, zeros 256)
@@ -93,33 +93,33 @@ mul-nine : tie.Need-overflow-mul-nine
 mul-nine c = record { fits = omega (arith, few c.before) }
 
 array-share-prefix-all-halves : tie.Need-array-share-prefix-all-halves
-array-share-prefix-all-halves c = let k = c.before in omega (arith, nine-long k, few k)
+array-share-prefix-all-halves c = let k = c.before in omega (arith, nine_long k, few k)
 
 slice-aggregate-halves : tie.Need-slice-aggregate-halves
-slice-aggregate-halves c = sym (nine-taken c.before.before)
+slice-aggregate-halves c = sym (nine_taken c.before.before)
 
 measure-requires : tie.Need-measure-requires
 measure-requires c κs =
     let k = c.before.before.before.before.before.before.before in
     let s = start k in
-    (record { op = s.args.op; a = a k; b = b k; ok-a = s.pre.0; ok-b = s.pre.1; lists = (told k).0 }, omega (arith, s.pre.2, c.before.before.before.before.before.before.before.before.before.before.before.before.gather.ensures.1))
+    (record { op = s.args.op; a = a k; b = b k; ok_a = s.pre.0; ok_b = s.pre.1; lists = (told k).0 }, omega (arith, s.pre.2, c.before.before.before.before.before.before.before.before.before.before.before.before.gather.ensures.1))
 
 too-short-requires : tie.Need-too-short-requires
-too-short-requires c κs = let m = c.measure.ensures in (m.few-vertices, m.few-triangles)
+too-short-requires c κs = let m = c.measure.ensures in (m.few_vertices, m.few_triangles)
 
 refused-requires : tie.Need-refused-requires
 refused-requires c κs = search rules
 
-same-length-2 : tie.Need-same-length-2
-same-length-2 c = c.before.before.before.before.before.before.before.before.before.before.before.before.before.before.before.before.gather.ensures.1
+same_length_2 : tie.Need-same-length-2
+same_length_2 c = c.before.before.before.before.before.before.before.before.before.before.before.before.before.before.before.before.gather.ensures.1
 
-returns-2 : tie.Need-returns-2
-returns-2 c =
+returns_2 : tie.Need-returns-2
+returns_2 c =
     let k = c.before.before.before.before.before.before.before.before.before.before.before in
     let s = start k in
     let m = c.before.before.before.measure in
     let n = m.ensures.numbered s.args.op (a k) (b k) (told k).0 in
-    ap (λ r. called r (lent k)) c.refused.ensures ∙ done-short s.args.op (a k) (b k) s.pre.0 s.pre.1 (told k).0 n (lent k) m.result.triangles m.ensures.counted (sym c.before.before.too_short.ensures ∙ c.before.if1.true)
+    ap (λ r. called r (lent k)) c.refused.ensures ∙ done_short s.args.op (a k) (b k) s.pre.0 s.pre.1 (told k).0 n (lent k) m.result.triangles m.ensures.counted (sym c.before.before.too_short.ensures ∙ c.before.if1.true)
 
 slice-aggregate-put-points : tie.Need-slice-aggregate-put-points
 slice-aggregate-put-points c = sym (told c.before.before.before.before.before.before.before.before.before.before.before).1.2
@@ -136,23 +136,23 @@ put-points-requires c κs =
     let s = start k in
     let m = c.before.before.before.before.before.before.before.measure in
     let n = m.ensures.numbered s.args.op (a k) (b k) (told k).0 in
-    let columns = columns-there s.args.op (a k) (b k) s.pre.0 s.pre.1 (told k).0 (omega (arith, (told k).3)) in
-    let vertices = vertices-there s.args.op (a k) (b k) s.pre.0 s.pre.1 (told k).0 in
+    let columns = columns_there s.args.op (a k) (b k) s.pre.0 s.pre.1 (told k).0 (omega (arith, (told k).3)) in
+    let vertices = vertices_there s.args.op (a k) (b k) s.pre.0 s.pre.1 (told k).0 in
     let long = sym c.before.before.before.before.before.before.too_short.ensures ∙ c.before.before.before.before.before.if1.false in
-    let fit = points-fit s.args.op (a k) (b k) s.pre.0 s.pre.1 (told k).0 n (lent k) m.result.triangles m.ensures.counted long in
-    ((told k).1, (((told k).0.of-z, columns, vertices), fit))
+    let fit = points_fit s.args.op (a k) (b k) s.pre.0 s.pre.1 (told k).0 n (lent k) m.result.triangles m.ensures.counted long in
+    ((told k).1, (((told k).0.of_z_list, columns, vertices), fit))
 
 slice-aggregate-put-triangles : tie.Need-slice-aggregate-put-triangles
 slice-aggregate-put-triangles c = sym (told c.before.before.before.before.before.before.before.before.before.before.before.before.before.before.before.before.before.before.before).2
 
 slice-aggregate-put-triangles-2 : tie.Need-slice-aggregate-put-triangles-2
-slice-aggregate-put-triangles-2 c = sym c.before.before.before.before.before.before.before.before.before.before.before.before.measure.ensures.num-long
+slice-aggregate-put-triangles-2 c = sym c.before.before.before.before.before.before.before.before.before.before.before.before.measure.ensures.num_long
 
 slice-aggregate-put-triangles-3 : tie.Need-slice-aggregate-put-triangles-3
 slice-aggregate-put-triangles-3 c = sym (told c.before.before.before.before.before.before.before.before.before.before.before.before.before.before.before.before.before.before.before.before.before).3
 
 slice-aggregate-put-triangles-4 : tie.Need-slice-aggregate-put-triangles-4
-slice-aggregate-put-triangles-4 c = sym c.before.before.before.before.before.before.before.before.before.before.before.before.before.before.before.measure.ensures.marks-long
+slice-aggregate-put-triangles-4 c = sym c.before.before.before.before.before.before.before.before.before.before.before.before.before.before.before.measure.ensures.marks_long
 
 slice-aggregate-put-triangles-5 : tie.Need-slice-aggregate-put-triangles-5
 slice-aggregate-put-triangles-5 c = search rules
@@ -179,7 +179,7 @@ returns-3 c =
     let m = c.before.before.before.before.before.before.before.before.before.before.before.before.before.before.before.before.before.before.before.before.before.before.before.before.measure in
     let n = m.ensures.numbered s.args.op (a k) (b k) (told k).0 in
     let u = c.before.before.before.before.before.before.before.before.before.before.before.before.before.before.before.before.before.before.before.before.before.before in
-    done-made s.args.op (a k) (b k) s.pre.0 s.pre.1 (told k).0 n (lent k) m.result.triangles m.ensures.counted
+    done_made s.args.op (a k) (b k) s.pre.0 s.pre.1 (told k).0 n (lent k) m.result.triangles m.ensures.counted
     (sym u.before.too_short.ensures ∙ u.if1.false)
     c.before.before.before.before.before.before.before.before.before.before.before.before.before.before.before.before.put-points.ensures
     c.before.before.before.before.before.put-triangles.ensures.0
@@ -188,7 +188,7 @@ pub attempt-spec : {M : Type 1} → statement M
 attempt-spec =
     tie.close
     (tie.spec gather-requires enum-known-z enum_told same_length returns add-nine mul-nine array-share-prefix-all-halves slice-aggregate-halves
-    measure-requires too-short-requires refused-requires same-length-2 returns-2 slice-aggregate-put-points slice-aggregate-put-points-2
+    measure-requires too-short-requires refused-requires same_length_2 returns_2 slice-aggregate-put-points slice-aggregate-put-points-2
     slice-aggregate-put-points-3 put-points-requires slice-aggregate-put-triangles slice-aggregate-put-triangles-2 slice-aggregate-put-triangles-3
     slice-aggregate-put-triangles-4 slice-aggregate-put-triangles-5 put-triangles-requires same-length-3 same-length-4 same-length-5 same-length-6
     returns-3)

@@ -6,7 +6,7 @@ use borrow.Author.Rules.{rules}
 use lib.Seq.{length-take-le}
 use Rattle.solids.specs.Solids.{solid}
 use Rattle.layouts.specs.declared.Sizes.{Sizes}
-use Rattle.result_numbers.proofs.Numbered.{in-front}
+use Rattle.result_numbers.proofs.Numbered.{in_front}
 use Rattle.result_numbers.proofs.include.Statement.{statement}
 use Rattle.result_numbers.proofs.include.Tie as tie
 
@@ -32,7 +32,7 @@ returns : tie.Need-returns
 returns c =
     let s = c.before.before.before.before.before.before.before.before.before in
     let same : tie.Need-same-length = λ c. search rules in
-    (in-front s.args.op (solid s.args.ap.now s.args.ac.now) (solid s.args.bp.now s.args.bc.now) s.args.inc.now (s.args.z.va + s.args.z.vb) s.requires.1.1.3 c.before.include.ensures, same c)
+    (in_front s.args.op (solid s.args.ap.now s.args.ac.now) (solid s.args.bp.now s.args.bc.now) s.args.inc.now (s.args.z.va + s.args.z.vb) s.requires.1.1.3 c.before.include.ensures, same c)
 
 pub include-spec : {M : Type 1} → statement M
 include-spec = tie.close (tie.spec add-many slice-relend-prefix-include slice-aggregate-include include-requires same_length returns)

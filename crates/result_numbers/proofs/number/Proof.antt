@@ -24,7 +24,7 @@ returns c =
     let x = c.before.before.before.before.before.before.number.ensures in
     let y = c.before.before.number2.ensures in
     let z = s.requires.0 in (
-      λ op a b of-z i size. numbers_of op a b s.args.total of-z i size x.0 y.0 y.1.0,
+      λ op a b of_z_list i size. numbers_of op a b s.args.total of_z_list i size x.0 y.0 y.1.0,
       ((omega (arith, x.1.1.0, z.va), omega (arith, x.1.1.0, y.1.1.0, z.va, z.vb, s.requires.1)), y.1.1.1 ∙ x.1.1.1),
     )
 

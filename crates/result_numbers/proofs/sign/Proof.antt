@@ -8,7 +8,7 @@ use lib.IntN.{ℤ, nat_abs}
 use mir.Syntax.{w32}
 use mir.Val.{to_z, of_z}
 use Rattle.list_words.specs.Lists.{nonzero}
-use Rattle.list_words.proofs.Widths.{back-32}
+use Rattle.list_words.proofs.Widths.{back_32}
 use Rattle.results.specs.declared.Operation.{Operation}
 use Rattle.results.specs.declared.Operation.TheVariants.{Union, Intersection, Difference}
 use Rattle.results.specs.declared.Numbers.{Numbers}
@@ -28,7 +28,7 @@ returns : tie.Need-returns
 returns c =
     let op = c.before.before.args.op in
     let o = one op in
-    let e = ap (λ (n : Numbers). to_z w32 (of_z w32 n.c_i)) c.before.numbers.ensures ∙ back-32 (cI op) (omega (arith, o.0)) in
+    let e = ap (λ (n : Numbers). to_z w32 (of_z w32 n.c_i)) c.before.numbers.ensures ∙ back_32 (cI op) (omega (arith, o.0)) in
     (e, subst (λ (n : ℤ). (nat_abs n ≤ 1) × (nonzero n ≡ true)) (sym e) o)
 
 pub sign-spec : {M : Type 1} → statement M

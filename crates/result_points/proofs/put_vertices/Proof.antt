@@ -8,7 +8,7 @@ use lib.ListN.{length, get_or}
 use mir.Syntax.{w16}
 use mir.Val.{SFits}
 use Rattle.solids.specs.Solids.{solid}
-use Rattle.result_points.proofs.Kept.{is-kept, is-left, Kept, kept-none, kept-long, kept-room, kept-yes, kept-no, kept-all}
+use Rattle.result_points.proofs.Kept.{is_kept, is_left, Kept, kept_none, kept_long, kept_room, kept_yes, kept_no, kept_all}
 use borrow.Author.Rules.{rules}
 use Rattle.result_points.proofs.put_vertices.Statement.{statement}
 use Rattle.result_points.proofs.put_vertices.Tie as tie
@@ -22,7 +22,7 @@ decreases-loop vs inc from list₀ at many next₀ i₀ list next i = length vs 
 loop-holds : tie.Need-loop-init invariant-loop decreases-loop
 loop-holds c =
     let a = c.before.before.args in
-    kept-none (solid a.vs.now []) a.inc.now a.from a.list.now a.at
+    kept_none (solid a.vs.now []) a.inc.now a.from a.list.now a.at
 
 add-n : tie.Need-overflow-add-n invariant-loop decreases-loop
 add-n c = search rules
@@ -42,7 +42,7 @@ put-point-requires c κs =
     let s = t.before.before.before.before in
     let x = get_or s.args.inc.now (s.args.from + t.before.loop.i) (pos 0) in
     let f : SFits w16 x = search rules in
-    kept-room t.before.loop.invariant t.loop-test.true (is-kept x f c.before.before.if1.true) s.requires.1
+    kept_room t.before.loop.invariant t.loop-test.true (is_kept x f c.before.before.if1.true) s.requires.1
 
 add-next : tie.Need-overflow-add-next invariant-loop decreases-loop
 add-next c =
@@ -51,7 +51,7 @@ add-next c =
     let s = t.before.before.before.before in
     let x = get_or s.args.inc.now (s.args.from + t.before.loop.i) (pos 0) in
     let f : SFits w16 x = search rules in
-    omega (arith, kept-room t.before.loop.invariant t.loop-test.true (is-kept x f i.true) s.requires.1, kept-long t.before.loop.invariant)
+    omega (arith, kept_room t.before.loop.invariant t.loop-test.true (is_kept x f i.true) s.requires.1, kept_long t.before.loop.invariant)
 
 add-i : tie.Need-overflow-add-i invariant-loop decreases-loop
 add-i c = search rules
@@ -67,15 +67,15 @@ loop-again c =
     let x = get_or s.args.inc.now (s.args.from + l.i) (pos 0) in
     let f : SFits w16 x = search rules in
     ⊎_elim
-    (λ w. rw (w.6, w.7) (kept-yes l.invariant t.loop-test.true (is-kept x f w.0.taken) w.1.ensures w.3.ensures))
-    (λ w. rw (w.1, w.2) (kept-no l.invariant t.loop-test.true (is-left x f w.0.left)))
+    (λ w. rw (w.6, w.7) (kept_yes l.invariant t.loop-test.true (is_kept x f w.0.taken) w.1.ensures w.3.ensures))
+    (λ w. rw (w.1, w.2) (kept_no l.invariant t.loop-test.true (is_left x f w.0.left)))
     c.if1.branch
 
 same_length : tie.Need-same-length invariant-loop decreases-loop
-same_length c = kept-long c.before.loop.invariant
+same_length c = kept_long c.before.loop.invariant
 
 returns : tie.Need-returns invariant-loop decreases-loop
-returns c = kept-all c.before.loop.invariant c.loop-test.false
+returns c = kept_all c.before.loop.invariant c.loop-test.false
 
 pub put-vertices-spec : {M : Type 1} → statement M
 put-vertices-spec =

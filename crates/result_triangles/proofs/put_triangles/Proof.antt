@@ -7,19 +7,19 @@ use native.Mathlib.Nat.{le_antisymm}
 use native.Mathlib.Omega.{arith}
 use lib.ListN.{length}
 use Rattle.list_words.specs.Lists.{up_to}
-use Rattle.list_words.proofs.UpTo.{flat-upTo-suc}
-use Rattle.joined_ends.proofs.Flat.{firsts-behind}
+use Rattle.list_words.proofs.UpTo.{flat_up_to_suc}
+use Rattle.joined_ends.proofs.Flat.{firsts_behind}
 use Rattle.fans.specs.Words.{Laid}
-use Rattle.fans.proofs.Fans.{laid_none, laid_more, laid-long}
-use Rattle.vertex_table.specs.Words.{boundary, fan-of, triangles}
-use Rattle.vertex_table.proofs.Bound.{boundary-short}
+use Rattle.fans.proofs.Fans.{laid_none, laid_more, laid_long}
+use Rattle.vertex_table.specs.Words.{boundary, fan_of, triangles}
+use Rattle.vertex_table.proofs.Bound.{boundary_short}
 use Rattle.kept_lists.specs.Words.{rows, dense}
-use Rattle.kept_lists.proofs.Dense.{good-dense}
+use Rattle.kept_lists.proofs.Dense.{good_dense}
 use Rattle.result_triangles.proofs.put_triangles.Statement.{statement}
 use Rattle.result_triangles.proofs.put_triangles.Tie as tie
 
 abbrev invariant-loop : tie.invariant-loop
-invariant-loop inc num first crossed halves plan marks list₀ corners₀ origins₀ n k₀ x₀ list corners origins k x = (x ≤ n) × (k ≤ x * 3075) × (length list ≡ length list₀) × Laid (flat_map (fan-of (dense plan.sizes inc num (rows first crossed plan.base)) halves plan.sizes) (up_to x)) corners₀ origins₀ 0 corners origins k
+invariant-loop inc num first crossed halves plan marks list₀ corners₀ origins₀ n k₀ x₀ list corners origins k x = (x ≤ n) × (k ≤ x * 3075) × (length list ≡ length list₀) × Laid (flat_map (fan_of (dense plan.sizes inc num (rows first crossed plan.base)) halves plan.sizes) (up_to x)) corners₀ origins₀ 0 corners origins k
 
 abbrev decreases-loop : tie.decreases-loop
 decreases-loop inc num first crossed halves plan marks list₀ corners₀ origins₀ n k₀ x₀ list corners origins k x = n - x
@@ -36,7 +36,7 @@ boundary-requires c κs =
     let s = c.before.before.before.before.before.before.before.before.before.before.before.before in
     let l = c.before.before.loop in
     let h = c.before.loop-test.true in
-    ((s.requires.0, s.requires.1, h), omega (arith, boundary-short (good-dense s.args.plan.sizes s.args.inc.now s.args.num.now (rows s.args.first.now s.args.crossed.now s.args.plan.base) s.requires.0) l.x h, s.requires.2, l.invariant.2))
+    ((s.requires.0, s.requires.1, h), omega (arith, boundary_short (good_dense s.args.plan.sizes s.args.inc.now s.args.num.now (rows s.args.first.now s.args.crossed.now s.args.plan.base) s.requires.0) l.x h, s.requires.2, l.invariant.2))
 
 cast-origin : tie.Need-overflow-cast-origin invariant-loop decreases-loop
 cast-origin c =
@@ -49,7 +49,7 @@ put-fan-requires c κs =
     let l = c.before.before.before.before.before.before.before.before.loop in
     let b = c.before.before.before.before.before.boundary in
     let h = c.before.before.before.before.before.before.before.loop-test.true in
-    let r = boundary-short (good-dense s.args.plan.sizes s.args.inc.now s.args.num.now (rows s.args.first.now s.args.crossed.now s.args.plan.base) s.requires.0) l.x h in
+    let r = boundary_short (good_dense s.args.plan.sizes s.args.inc.now s.args.num.now (rows s.args.first.now s.args.crossed.now s.args.plan.base) s.requires.0) l.x h in
     (omega (arith, b.ensures.next, r, b.auto.1.1.1.1.1.1.1.1.0, l.invariant.2, s.requires.2), omega (arith, b.ensures.next, r, l.invariant.1, h, s.requires.0.halves.sized.fa, s.requires.0.halves.sized.fb))
 
 add-x : tie.Need-overflow-add-x invariant-loop decreases-loop
@@ -70,7 +70,7 @@ loop-less : tie.Need-loop-smaller invariant-loop decreases-loop
 loop-less c = omega (arith, c.before.before.before.before.before.before.before.before.before.before.before.before.loop-test.true)
 
 loop-again : tie.Need-loop-preserved invariant-loop decreases-loop
-unfolding fan-of
+unfolding fan_of
 loop-again c =
     let s = c.before.before.before.before.before.before.before.before.before.before.before.before.before.before.before.before.before.before.before.before.before.before.before in
     let a = s.args in
@@ -79,25 +79,25 @@ loop-again c =
     let h = c.before.before.before.before.before.before.before.before.before.before.before.before.loop-test.true in
     let p = c.before.before.before.before.put-fan in
     let t = dense a.plan.sizes a.inc.now a.num.now (rows a.first.now a.crossed.now a.plan.base) in
-    let f = fan-of t a.halves.now a.plan.sizes in
-    let r = boundary-short (good-dense s.args.plan.sizes s.args.inc.now s.args.num.now (rows s.args.first.now s.args.crossed.now s.args.plan.base) s.requires.0) l.x h in
+    let f = fan_of t a.halves.now a.plan.sizes in
+    let r = boundary_short (good_dense s.args.plan.sizes s.args.inc.now s.args.num.now (rows s.args.first.now s.args.crossed.now s.args.plan.base) s.requires.0) l.x h in
     let long = b.auto.1.1.1.1.1.1.1.1.0 in
     let e =
-    firsts-behind (boundary t a.halves.now a.plan.sizes l.x) l.list b.new.1.1.1.1.1.1.1.1.0 b.result (omega (arith, b.ensures.next, r, long, l.invariant.2, s.requires.2)) b.ensures in (
+    firsts_behind (boundary t a.halves.now a.plan.sizes l.x) l.list b.new.1.1.1.1.1.1.1.1.0 b.result (omega (arith, b.ensures.next, r, long, l.invariant.2, s.requires.2)) b.ensures in (
       omega (arith, h),
       omega (arith, p.ensures.1, b.ensures.next, r, l.invariant.1),
       long ∙ l.invariant.2,
-      rw (add-one l.x, flat-upTo-suc f l.x) (laid_more l.invariant.3 (rw e.0 at p.ensures.0)),
+      rw (add-one l.x, flat_up_to_suc f l.x) (laid_more l.invariant.3 (rw e.0 at p.ensures.0)),
     )
 
 same_length : tie.Need-same-length invariant-loop decreases-loop
 same_length c = c.before.loop.invariant.2
 
-same-length-2 : tie.Need-same-length-2 invariant-loop decreases-loop
-same-length-2 c = (laid-long c.before.loop.invariant.3).0
+same_length_2 : tie.Need-same-length-2 invariant-loop decreases-loop
+same_length_2 c = (laid_long c.before.loop.invariant.3).0
 
 same-length-3 : tie.Need-same-length-3 invariant-loop decreases-loop
-same-length-3 c = (laid-long c.before.loop.invariant.3).1
+same-length-3 c = (laid_long c.before.loop.invariant.3).1
 
 returns : tie.Need-returns invariant-loop decreases-loop
 unfolding triangles
@@ -121,6 +121,6 @@ put-triangles-spec =
     loop-less
     loop-again
     same_length
-    same-length-2
+    same_length_2
     same-length-3
     returns)

@@ -4,17 +4,17 @@ use native.Mathlib.Omega.{arith}
 use lib.Seq.{length-take-le}
 use borrow.Author.Tests.{lt-ltb, le-ltb}
 use borrow.Author.Rules.{rules}
-use Rattle.solid_input.specs.Words.{kept-admission}
+use Rattle.solid_input.specs.Words.{kept_admission}
 use Rattle.solid_input.proofs.admitted.Statement.{statement}
 use Rattle.solid_input.proofs.admitted.Tie as tie
 
 returns : tie.Need-returns
-unfolding kept-admission
+unfolding kept_admission
 returns c = rw (lt-ltb _ _ c.if1.true)
 
-returns-2 : tie.Need-returns-2
-unfolding kept-admission
-returns-2 c = rw (le-ltb _ _ c.before.before.if1.false, lt-ltb _ _ c.if2.true)
+returns_2 : tie.Need-returns-2
+unfolding kept_admission
+returns_2 c = rw (le-ltb _ _ c.before.before.if1.false, lt-ltb _ _ c.if2.true)
 
 mul-n : tie.Need-overflow-mul-n
 mul-n c = search rules
@@ -32,7 +32,7 @@ admit-requires : tie.Need-admit-requires
 admit-requires c κs = search rules
 
 returns-3 : tie.Need-returns-3
-unfolding kept-admission
+unfolding kept_admission
 returns-3 c =
     let d = c.before.before.before.before.before in
     rw (le-ltb _ _ d.before.before.if1.false, le-ltb _ _ d.if2.false) c.admit.ensures
@@ -42,7 +42,7 @@ admitted-spec =
     tie.close
     (tie.spec
     returns
-    returns-2
+    returns_2
     mul-n
     mul-m
     slice-aggregate-admit

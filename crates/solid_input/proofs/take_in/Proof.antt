@@ -4,12 +4,12 @@ use native.Mathlib.Omega.{arith}
 use lib.Seq.{take_all}
 use lib.ListN.{length, drop, length-drop}
 use borrow.Author.Rules.{rules}
-use Rattle.solid_input.proofs.Letters.{no-letter, at-letter}
+use Rattle.solid_input.proofs.Letters.{no_letter, at_letter}
 use Rattle.solid_input.proofs.take_in.Statement.{statement}
 use Rattle.solid_input.proofs.take_in.Tie as tie
 
 returns : tie.Need-returns
-returns c = no-letter _ (omega (arith, c.if1.true))
+returns c = no_letter _ (omega (arith, c.if1.true))
 
 shared-slice-read-code-of : tie.Need-shared-slice-read-code-of
 shared-slice-read-code-of c = search rules
@@ -29,11 +29,11 @@ part-by-code-end c = search rules
 by-code-requires : tie.Need-by-code-requires
 by-code-requires c κs = search rules
 
-returns-2 : tie.Need-returns-2
-returns-2 c =
+returns_2 : tie.Need-returns-2
+returns_2 c =
     let d = c.before.before.before.before.before.before in
     let bs = d.before.before.before.before.args.input.now in
-    rw (at-letter bs (omega arith), ← d.code_of_lem.ensures, ← take_all (length bs - 1) (drop 1 bs) (rw (length-drop 1 bs) (omega arith))) c.by_code.ensures
+    rw (at_letter bs (omega arith), ← d.code_of_lem.ensures, ← take_all (length bs - 1) (drop 1 bs) (rw (length-drop 1 bs) (omega arith))) c.by_code.ensures
 
 pub take-in-spec : {M : Type 1} → statement M
 take-in-spec =
@@ -46,4 +46,4 @@ take-in-spec =
     part-by-code-start
     part-by-code-end
     by-code-requires
-    returns-2)
+    returns_2)

@@ -76,8 +76,8 @@ returns c =
     let k = t.before.before in
     rw (subst (Said k) t.taken.given.1 k.take_in.ensures) c.refused.ensures
 
-returns-2 : tie.Need-returns-2
-returns-2 c = rw (told c.before.before.before.before.before.before.before.before.before.before).operated c.operated.ensures
+returns_2 : tie.Need-returns-2
+returns_2 c = rw (told c.before.before.before.before.before.before.before.before.before.before).operated c.operated.ensures
 
 pub outcome-spec : {M : Type 1} → statement M
 outcome-spec =
@@ -101,4 +101,4 @@ outcome-spec =
     slice-aggregate-operated-4
     operated-requires
     returns
-    returns-2)
+    returns_2)

@@ -6,7 +6,7 @@ use native.Mathlib.Omega.{arith}
 use lib.ListN.{length}
 use borrow.Author.Rules.{rules}
 use Rattle.numbers.specs.Digits.{digits}
-use Rattle.numbers.proofs.Digits.{few-digits}
+use Rattle.numbers.proofs.Digits.{few_digits}
 use Rattle.solid_line.specs.Line.{line}
 use Rattle.solid_printing.proofs.Texts.{and_then}
 use Rattle.solid_printing.proofs.line_of.Statement.{statement}
@@ -17,7 +17,7 @@ bounds : (c : tie.Start)
     → (length (digits c.args.made.answer.number) ≤ 10) × (length (digits c.args.made.vertices) ≤ 20) × (length (digits c.args.made.triangles) ≤ 20)
 bounds c =
     let g = c.well-formed.0.1.1 in
-    (few-digits 9 _ (omega (arith, g.0.1.1.0.1)), few-digits 19 _ (omega (arith, g.1.0.1)), few-digits 19 _ (omega (arith, g.1.1.0.1)))
+    (few_digits 9 _ (omega (arith, g.0.1.1.0.1)), few_digits 19 _ (omega (arith, g.1.0.1)), few_digits 19 _ (omega (arith, g.1.1.0.1)))
 
 cast-put-number : tie.Need-overflow-cast-put-number
 cast-put-number c = search rules

@@ -8,16 +8,16 @@ use lib.ListN.{length}
 use Rattle.list_words.specs.Lists.{up_to}
 use Rattle.solids.specs.declared.Verdict.{Verdict}
 use Rattle.solids.specs.declared.Verdict.TheVariants.{Accepted}
-use Rattle.solids.specs.Refusals.{on-solid, given, in_order, at_each}
+use Rattle.solids.specs.Refusals.{on_solid, given, in_order, at_each}
 use Rattle.solids.specs.Solids.{solid}
-use Rattle.solids.specs.Admission.{check-half-edges}
+use Rattle.solids.specs.Admission.{check_half_edges}
 use Rattle.solids.proofs.Checks.{each_next, each_at}
 use borrow.Author.Rules.{rules}
 use Rattle.tally.proofs.check_half_edges.Statement.{statement}
 use Rattle.tally.proofs.check_half_edges.Tie as tie
 
 abbrev check : List ℕ → ℕ → Verdict
-check corners = check-half-edges (solid [] corners)
+check corners = check_half_edges (solid [] corners)
 
 abbrev invariant-loop : tie.invariant-loop
 invariant-loop table corners f₀ f = (f ≤ length corners / 3) × (at_each f (check corners) ≡ Accepted)
@@ -27,9 +27,9 @@ decreases-loop table corners f₀ f = length corners / 3 - f
 
 -- what the code sees of facet f
 seen : (c : tie.After-facet-differs invariant-loop decreases-loop)
-    → let l = c.before.before in check l.before.before.args.corners.now l.loop.f ≡ given (on-solid 6 l.loop.f) c.facet-differs.result
-unfolding check-half-edges
-seen c = ap (given (on-solid 6 c.before.before.loop.f)) (sym c.facet-differs.ensures)
+    → let l = c.before.before in check l.before.before.args.corners.now l.loop.f ≡ given (on_solid 6 l.loop.f) c.facet-differs.result
+unfolding check_half_edges
+seen c = ap (given (on_solid 6 c.before.before.loop.f)) (sym c.facet-differs.ensures)
 
 loop-holds : tie.Need-loop-init invariant-loop decreases-loop
 unfolding in_order up_to
@@ -46,7 +46,7 @@ returns c =
     let l = c.before.before.before.before in
     let cs = l.before.before.args.corners.now in
     sym (each_at (check cs) (length cs / 3) l.loop.f _ c.before.before.before.loop-test.true l.loop.invariant.1
-    (seen c.before.before ∙ rw (c.before.if1.true, c.on-solid.ensures)))
+    (seen c.before.before ∙ rw (c.before.if1.true, c.on_solid.ensures)))
 
 add-f : tie.Need-overflow-add-f invariant-loop decreases-loop
 add-f c = search rules
@@ -60,8 +60,8 @@ loop-again c =
     let cs = l.before.before.args.corners.now in
     (omega arith, each_next (check cs) l.loop.f l.loop.invariant.1 (seen c.before ∙ rw c.if1.false))
 
-returns-2 : tie.Need-returns-2 invariant-loop decreases-loop
-returns-2 c = let l = c.before in sym (rw (le_antisymm c.loop-test.false l.loop.invariant.0) l.loop.invariant.1)
+returns_2 : tie.Need-returns-2 invariant-loop decreases-loop
+returns_2 c = let l = c.before in sym (rw (le_antisymm c.loop-test.false l.loop.invariant.0) l.loop.invariant.1)
 
 pub check-half-edges-spec : {M : Type 1} → statement M
 check-half-edges-spec =
@@ -76,4 +76,4 @@ check-half-edges-spec =
     add-f
     loop-less
     loop-again
-    returns-2)
+    returns_2)

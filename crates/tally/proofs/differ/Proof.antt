@@ -6,7 +6,7 @@ use lib.ListN.{get_or}
 use mathlib.Core.List.{[]}
 use native.Mathlib.Omega.{arith}
 use borrow.Author.Tests.{eq-eqb, ne_eqb}
-use Rattle.solids.specs.Solids.{solid, half-edges}
+use Rattle.solids.specs.Solids.{solid, half_edges}
 use Rattle.solids.specs.Admission as Ad
 use Rattle.solids.specs.Words.{place}
 use borrow.Author.Rules.{rules}
@@ -33,7 +33,7 @@ element-copy-out-if1-2 c = search rules
 
 numbers :
     (s : tie.Start)
-    → Ad.differ (half-edges (solid [] s.args.corners.now)) (s.args.p, s.args.q)
+    → Ad.differ (half_edges (solid [] s.args.corners.now)) (s.args.p, s.args.q)
     ≡ not (eqb (get_or s.args.table.now (place (s.args.p, s.args.q)) 0) (get_or s.args.table.now (place (s.args.q, s.args.p)) 0))
 unfolding Ad.differ
 numbers s =
@@ -49,8 +49,8 @@ returns c =
     let at_back : back ≡ place (s.args.q, s.args.p) = c.before.before.before.place2.ensures.0 in
     rw (numbers s, ← at_there, ← at_back, eq-eqb (get_or s.args.table.now there 0) (get_or s.args.table.now back 0) (omega (arith, c.if1.true)))
 
-returns-2 : tie.Need-returns-2
-returns-2 c =
+returns_2 : tie.Need-returns-2
+returns_2 c =
     let s = c.before.before.before.before.before.before in
     let there = c.before.before.before.before.place.result in
     let back = c.before.before.before.place2.result in
@@ -69,4 +69,4 @@ differ-spec =
     mul-if1-2
     element-copy-out-if1-2
     returns
-    returns-2)
+    returns_2)

@@ -4,7 +4,7 @@ use mathlib.Core.Bool.{or-false}
 use native.Mathlib.Omega.{arith}
 use native.Mathlib.Nat.{add-zero}
 use Rattle.list_words.specs.Lists.{any}
-use Rattle.solids.proofs.Tally.{low-at, low_first}
+use Rattle.solids.proofs.Tally.{low_at, low_first}
 use borrow.Author.Rules.{rules}
 use Rattle.tally.proofs.facet_differs.Statement.{statement}
 use Rattle.tally.proofs.facet_differs.Tie as tie
@@ -43,21 +43,21 @@ shared-slice-read-r : tie.Need-shared-slice-read-r
 shared-slice-read-r c = search rules
 
 differ-requires : tie.Need-differ-requires
-differ-requires c κs = let s = c.before.before.before.before in (low_first s.args.corners.now s.args.f s.requires.0 s.requires.1, low-at s.args.corners.now s.args.f 1 s.requires.0 s.requires.1 (omega arith), s.requires.2)
+differ-requires c κs = let s = c.before.before.before.before in (low_first s.args.corners.now s.args.f s.requires.0 s.requires.1, low_at s.args.corners.now s.args.f 1 s.requires.0 s.requires.1 (omega arith), s.requires.2)
 
 differ-requires-2 : tie.Need-differ-requires-2
-differ-requires-2 c κs = let s = c.before.before.before.before.before.before in (low-at s.args.corners.now s.args.f 1 s.requires.0 s.requires.1 (omega arith), low-at s.args.corners.now s.args.f 2 s.requires.0 s.requires.1 (omega arith), s.requires.2)
+differ-requires-2 c κs = let s = c.before.before.before.before.before.before in (low_at s.args.corners.now s.args.f 1 s.requires.0 s.requires.1 (omega arith), low_at s.args.corners.now s.args.f 2 s.requires.0 s.requires.1 (omega arith), s.requires.2)
 
 differ-requires-3 : tie.Need-differ-requires-3
-differ-requires-3 c κs = let s = c.before.before.before.before.before.before.before.before in (low-at s.args.corners.now s.args.f 2 s.requires.0 s.requires.1 (omega arith), low_first s.args.corners.now s.args.f s.requires.0 s.requires.1, s.requires.2)
+differ-requires-3 c κs = let s = c.before.before.before.before.before.before.before.before in (low_at s.args.corners.now s.args.f 2 s.requires.0 s.requires.1 (omega arith), low_first s.args.corners.now s.args.f s.requires.0 s.requires.1, s.requires.2)
 
 returns : tie.Need-returns
 unfolding any
 returns c = rw (add-zero, ← c.before.differ.ensures, c.if1.true)
 
-returns-2 : tie.Need-returns-2
+returns_2 : tie.Need-returns-2
 unfolding any
-returns-2 c = rw (add-zero, ← c.before.before.before.differ.ensures, c.before.before.if1.false, ← c.before.differ2.ensures, c.if2.true)
+returns_2 c = rw (add-zero, ← c.before.before.before.differ.ensures, c.before.before.if1.false, ← c.before.differ2.ensures, c.if2.true)
 
 returns-3 : tie.Need-returns-3
 unfolding any
@@ -82,5 +82,5 @@ facet-differs-spec =
     differ-requires-2
     differ-requires-3
     returns
-    returns-2
+    returns_2
     returns-3)

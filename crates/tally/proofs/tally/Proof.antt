@@ -1,7 +1,7 @@
 -- `tally` meets its contract: the facets below f are counted.
 use mathlib.Core.Path.{subst}
 use native.Mathlib.Nat.{le_antisymm}
-use Rattle.solids.specs.Solids.{half-edges}
+use Rattle.solids.specs.Solids.{half_edges}
 use Prim.Native.Nat.{◌≤◌, ◌/◌, ◌-◌}
 use native.Mathlib.Omega.{arith}
 use lib.ListN.{length}
@@ -35,7 +35,7 @@ loop-again : tie.Need-loop-preserved invariant-loop decreases-loop
 loop-again c = (omega arith, c.count-facet.ensures)
 
 returns : tie.Need-returns invariant-loop decreases-loop
-unfolding half-edges counted
+unfolding half_edges counted
 returns c = let l = c.before in let cs = l.before.before.args.corners.now in subst (λ n. Tallied l.loop.table (counted cs n)) (le_antisymm l.loop.invariant.0 c.loop-test.false) l.loop.invariant.1
 
 pub tally-spec : {M : Type 1} → statement M

@@ -7,25 +7,25 @@ use native.Mathlib.Nat.{le_antisymm}
 use native.Mathlib.Omega.{arith}
 use lib.ListN.{length, length-append}
 use Rattle.list_words.specs.Lists.{up_to}
-use Rattle.list_words.proofs.UpTo.{flat-upTo-suc}
-use Rattle.joined_ends.proofs.Flat.{two-each}
-use Rattle.vertex_table.specs.Words.{boundary, fan-of, triangles}
-use Rattle.vertex_table.proofs.Bound.{boundary-short}
+use Rattle.list_words.proofs.UpTo.{flat_up_to_suc}
+use Rattle.joined_ends.proofs.Flat.{two_each}
+use Rattle.vertex_table.specs.Words.{boundary, fan_of, triangles}
+use Rattle.vertex_table.proofs.Bound.{boundary_short}
 use Rattle.kept_lists.specs.Words.{rows, dense}
-use Rattle.kept_lists.proofs.Dense.{good-dense}
-use Rattle.kept_lists.proofs.Counted.{fan-short}
+use Rattle.kept_lists.proofs.Dense.{good_dense}
+use Rattle.kept_lists.proofs.Counted.{fan_short}
 use Rattle.triangle_count.proofs.count_triangles.Statement.{statement}
 use Rattle.triangle_count.proofs.count_triangles.Tie as tie
 
 abbrev invariant-loop : tie.invariant-loop
-invariant-loop inc num first crossed halves plan marks n k₀ x₀ k x = (x ≤ n) × (k ≤ x * 3075) × (k ≡ length (flat_map (fan-of (dense plan.sizes inc num (rows first crossed plan.base)) halves plan.sizes) (up_to x)))
+invariant-loop inc num first crossed halves plan marks n k₀ x₀ k x = (x ≤ n) × (k ≤ x * 3075) × (k ≡ length (flat_map (fan_of (dense plan.sizes inc num (rows first crossed plan.base)) halves plan.sizes) (up_to x)))
 
 abbrev decreases-loop : tie.decreases-loop
 decreases-loop inc num first crossed halves plan marks n k₀ x₀ k x = n - x
 
 -- no facet has more
 few : (c : tie.After-fan-size invariant-loop decreases-loop) → c.fan-size.result ≤ 3075
-unfolding fan-of
+unfolding fan_of
 few c =
     let s = c.before.before.before.before.before.before.before.before.before in
     let a = s.args in
@@ -33,7 +33,7 @@ few c =
     let t = dense z a.inc.now a.num.now (rows a.first.now a.crossed.now a.plan.base) in
     let x = c.before.before.loop.x in
     let b = boundary t a.halves.now z x in
-    omega (arith, c.fan-size.ensures, fan-short x b, two-each b, boundary-short (good-dense z a.inc.now a.num.now (rows a.first.now a.crossed.now a.plan.base) s.requires.0) x c.before.loop-test.true)
+    omega (arith, c.fan-size.ensures, fan_short x b, two_each b, boundary_short (good_dense z a.inc.now a.num.now (rows a.first.now a.crossed.now a.plan.base) s.requires.0) x c.before.loop-test.true)
 
 add-n : tie.Need-overflow-add-n invariant-loop decreases-loop
 add-n c = let s = c.before.before.before.before.before.before in record { fits = omega (arith, s.requires.0.halves.sized.fa, s.requires.0.halves.sized.fb) }
@@ -59,8 +59,8 @@ loop-again c =
     let s = c.before.before.before.before.before.before.before.before.before in
     let a = s.args in
     let l = c.before.before.loop in
-    let f = fan-of (dense a.plan.sizes a.inc.now a.num.now (rows a.first.now a.crossed.now a.plan.base)) a.halves.now a.plan.sizes in
-    (omega (arith, c.before.loop-test.true), omega (arith, few c, l.invariant.1), rw (add-one l.x, flat-upTo-suc f l.x, length-append) (omega (arith, l.invariant.2, c.fan-size.ensures)))
+    let f = fan_of (dense a.plan.sizes a.inc.now a.num.now (rows a.first.now a.crossed.now a.plan.base)) a.halves.now a.plan.sizes in
+    (omega (arith, c.before.loop-test.true), omega (arith, few c, l.invariant.1), rw (add-one l.x, flat_up_to_suc f l.x, length-append) (omega (arith, l.invariant.2, c.fan-size.ensures)))
 
 returns : tie.Need-returns invariant-loop decreases-loop
 unfolding triangles

@@ -5,8 +5,8 @@ use Rattle.vertex_edge.proofs.edge_of.Tie as tie
 returns : tie.Need-returns
 returns c = rw c.if1.true
 
-returns-2 : tie.Need-returns-2
-returns-2 c = rw c.if1.false
+returns_2 : tie.Need-returns-2
+returns_2 c = rw c.if1.false
 
 pub edge-of-spec : {M : Type 1} → statement M
-edge-of-spec = tie.close (tie.spec returns returns-2)
+edge-of-spec = tie.close (tie.spec returns returns_2)

@@ -14,8 +14,8 @@ returns c = (sym (c.before.ev-apart.ensures c.if1.true), omega arith)
 gathered-ev-requires : tie.Need-gathered-ev-requires
 gathered-ev-requires c κs = search rules
 
-returns-2 : tie.Need-returns-2
-returns-2 c = search rules
+returns_2 : tie.Need-returns-2
+returns_2 c = search rules
 
 pub ev-spec : {M : Type 1} → statement M
-ev-spec = tie.close (tie.spec ev-apart-requires returns gathered-ev-requires returns-2)
+ev-spec = tie.close (tie.spec ev-apart-requires returns gathered-ev-requires returns_2)

@@ -2,7 +2,7 @@
 use borrow.Author.Rules.{rules}
 use Rattle.crossings.specs.Crossings.{ev}
 use Rattle.gathering.proofs.Gathering.{none, one_more, one_less, all_of, sized}
-use Rattle.crossings.proofs.Sizes.{small-ev}
+use Rattle.crossings.proofs.Sizes.{small_ev}
 use Rattle.vertex_edge.proofs.gathered_ev.Statement.{statement}
 use Rattle.vertex_edge.proofs.gathered_ev.Tie as tie
 
@@ -38,7 +38,7 @@ returns c =
     let g0 = none w1.before.empty.ensures.0 in
     let g1 = one_less g0 end.before.vv2.ensures.0 end.against.ensures.0 w1.with.ensures.0 in
     let g2 = one_more g1 start.vv.ensures.0 w2.with2.ensures.0 in
-    sized (all_of g2 c.finish.ensures) (small-ev a.e a.v)
+    sized (all_of g2 c.finish.ensures) (small_ev a.e a.v)
 
 pub gathered-ev-spec : {M : Type 1} → statement M
 gathered-ev-spec =

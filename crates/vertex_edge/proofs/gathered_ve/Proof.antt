@@ -2,7 +2,7 @@
 use borrow.Author.Rules.{rules}
 use Rattle.crossings.specs.Crossings.{ve}
 use Rattle.gathering.proofs.Gathering.{none, one_more, one_less, all_of, sized}
-use Rattle.crossings.proofs.Sizes.{small-ve}
+use Rattle.crossings.proofs.Sizes.{small_ve}
 use Rattle.vertex_edge.proofs.gathered_ve.Statement.{statement}
 use Rattle.vertex_edge.proofs.gathered_ve.Tie as tie
 
@@ -38,7 +38,7 @@ returns c =
     let g0 = none w1.before.empty.ensures.0 in
     let g1 = one_more g0 end.vv2.ensures.0 w1.with.ensures.0 in
     let g2 = one_less g1 start.before.vv.ensures.0 start.against.ensures.0 w2.with2.ensures.0 in
-    sized (all_of g2 c.finish.ensures) (small-ve a.v a.e)
+    sized (all_of g2 c.finish.ensures) (small_ve a.v a.e)
 
 pub gathered-ve-spec : {M : Type 1} → statement M
 gathered-ve-spec =

@@ -14,8 +14,8 @@ returns c = (sym (c.before.ve-apart.ensures c.if1.true), omega arith)
 gathered-ve-requires : tie.Need-gathered-ve-requires
 gathered-ve-requires c κs = search rules
 
-returns-2 : tie.Need-returns-2
-returns-2 c = search rules
+returns_2 : tie.Need-returns-2
+returns_2 c = search rules
 
 pub ve-spec : {M : Type 1} → statement M
-ve-spec = tie.close (tie.spec ve-apart-requires returns gathered-ve-requires returns-2)
+ve-spec = tie.close (tie.spec ve-apart-requires returns gathered-ve-requires returns_2)

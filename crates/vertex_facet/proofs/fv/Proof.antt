@@ -14,8 +14,8 @@ returns c = (sym (c.before.fv-apart.ensures c.if1.true), omega arith)
 gathered-fv-requires : tie.Need-gathered-fv-requires
 gathered-fv-requires c κs = search rules
 
-returns-2 : tie.Need-returns-2
-returns-2 c = search rules
+returns_2 : tie.Need-returns-2
+returns_2 c = search rules
 
 pub fv-spec : {M : Type 1} → statement M
-fv-spec = tie.close (tie.spec fv-apart-requires returns gathered-fv-requires returns-2)
+fv-spec = tie.close (tie.spec fv-apart-requires returns gathered-fv-requires returns_2)

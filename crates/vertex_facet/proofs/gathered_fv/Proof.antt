@@ -1,8 +1,8 @@
 -- `gathered_fv` meets its contract: it gathers its lower pairings.
 use borrow.Author.Rules.{rules}
 use Rattle.crossings.specs.Crossings.{fv, ev}
-use Rattle.gathering.proofs.Gathering.{none, half-more, all_of, sized}
-use Rattle.crossings.proofs.Sizes.{small-fv}
+use Rattle.gathering.proofs.Gathering.{none, half_more, all_of, sized}
+use Rattle.crossings.proofs.Sizes.{small_fv}
 use Rattle.vertex_facet.proofs.gathered_fv.Statement.{statement}
 use Rattle.vertex_facet.proofs.gathered_fv.Tie as tie
 
@@ -41,10 +41,10 @@ returns c =
     let pq = qr.before in
     let a = pq.before.args in
     let g0 = none w1.before.empty.ensures.0 in
-    let g1 = half-more g0 (λ h. ev h a.v) a.f.rp a.f.r a.f.p rp.hv3.ensures.0 w1.with.ensures.0 in
-    let g2 = half-more g1 (λ h. ev h a.v) a.f.qr a.f.q a.f.r qr.hv2.ensures.0 w2.with2.ensures.0 in
-    let g3 = half-more g2 (λ h. ev h a.v) a.f.pq a.f.p a.f.q pq.hv.ensures.0 w3.with3.ensures.0 in
-    sized (all_of g3 c.finish.ensures) (small-fv a.f a.v)
+    let g1 = half_more g0 (λ h. ev h a.v) a.f.rp a.f.r a.f.p rp.hv3.ensures.0 w1.with.ensures.0 in
+    let g2 = half_more g1 (λ h. ev h a.v) a.f.qr a.f.q a.f.r qr.hv2.ensures.0 w2.with2.ensures.0 in
+    let g3 = half_more g2 (λ h. ev h a.v) a.f.pq a.f.p a.f.q pq.hv.ensures.0 w3.with3.ensures.0 in
+    sized (all_of g3 c.finish.ensures) (small_fv a.f a.v)
 
 pub gathered-fv-spec : {M : Type 1} → statement M
 gathered-fv-spec =

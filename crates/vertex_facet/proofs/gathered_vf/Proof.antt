@@ -1,8 +1,8 @@
 -- `gathered_vf` meets its contract: it gathers its lower pairings.
 use borrow.Author.Rules.{rules}
 use Rattle.crossings.specs.Crossings.{vf, ve}
-use Rattle.gathering.proofs.Gathering.{none, half-less, all_of, sized}
-use Rattle.crossings.proofs.Sizes.{small-vf}
+use Rattle.gathering.proofs.Gathering.{none, half_less, all_of, sized}
+use Rattle.crossings.proofs.Sizes.{small_vf}
 use Rattle.vertex_facet.proofs.gathered_vf.Statement.{statement}
 use Rattle.vertex_facet.proofs.gathered_vf.Tie as tie
 
@@ -50,10 +50,10 @@ returns c =
     let pq = qr.before.before in
     let a = pq.before.before.args in
     let g0 = none w1.before.empty.ensures.0 in
-    let g1 = half-less g0 (ve a.v) a.f.rp a.f.r a.f.p rp.before.vh3.ensures.0 rp.against3.ensures.0 w1.with.ensures.0 in
-    let g2 = half-less g1 (ve a.v) a.f.qr a.f.q a.f.r qr.before.vh2.ensures.0 qr.against2.ensures.0 w2.with2.ensures.0 in
-    let g3 = half-less g2 (ve a.v) a.f.pq a.f.p a.f.q pq.before.vh.ensures.0 pq.against.ensures.0 w3.with3.ensures.0 in
-    sized (all_of g3 c.finish.ensures) (small-vf a.v a.f)
+    let g1 = half_less g0 (ve a.v) a.f.rp a.f.r a.f.p rp.before.vh3.ensures.0 rp.against3.ensures.0 w1.with.ensures.0 in
+    let g2 = half_less g1 (ve a.v) a.f.qr a.f.q a.f.r qr.before.vh2.ensures.0 qr.against2.ensures.0 w2.with2.ensures.0 in
+    let g3 = half_less g2 (ve a.v) a.f.pq a.f.p a.f.q pq.before.vh.ensures.0 pq.against.ensures.0 w3.with3.ensures.0 in
+    sized (all_of g3 c.finish.ensures) (small_vf a.v a.f)
 
 pub gathered-vf-spec : {M : Type 1} → statement M
 gathered-vf-spec =

@@ -14,8 +14,8 @@ returns c = (sym (c.before.vf-apart.ensures c.if1.true), omega arith)
 gathered-vf-requires : tie.Need-gathered-vf-requires
 gathered-vf-requires c κs = search rules
 
-returns-2 : tie.Need-returns-2
-returns-2 c = search rules
+returns_2 : tie.Need-returns-2
+returns_2 c = search rules
 
 pub vf-spec : {M : Type 1} → statement M
-vf-spec = tie.close (tie.spec vf-apart-requires returns gathered-vf-requires returns-2)
+vf-spec = tie.close (tie.spec vf-apart-requires returns gathered-vf-requires returns_2)

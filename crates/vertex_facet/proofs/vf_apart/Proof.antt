@@ -1,6 +1,6 @@
 -- `vf_apart` meets its contract.
 use mathlib.Core.Path.{sym, ap, ◌∙◌}
-use Rattle.vertex_edge.proofs.Apart.{miss-vf}
+use Rattle.vertex_edge.proofs.Apart.{miss_vf}
 use borrow.Author.Rules.{rules}
 use Rattle.vertex_facet.proofs.vf_apart.Statement.{statement}
 use Rattle.vertex_facet.proofs.vf_apart.Tie as tie
@@ -18,7 +18,7 @@ agree-requires : tie.Need-agree-requires
 agree-requires c κs = search rules
 
 returns : tie.Need-returns
-returns c = λ e. let g = c.agree.ensures e in let a = c.before.before.before.before.args in let p = c.before.before.before.past in miss-vf p.result a.v a.f (sym p.ensures) (sym c.before.before.past2.ensures ∙ g.0) (sym c.before.past3.ensures ∙ g.1)
+returns c = λ e. let g = c.agree.ensures e in let a = c.before.before.before.before.args in let p = c.before.before.before.past in miss_vf p.result a.v a.f (sym p.ensures) (sym c.before.before.past2.ensures ∙ g.0) (sym c.before.past3.ensures ∙ g.1)
 
 pub vf-apart-spec : {M : Type 1} → statement M
 vf-apart-spec =

@@ -3,7 +3,7 @@ use Prim.Native.Nat.{◌+◌, ◌*◌}
 use native.Mathlib.Omega.{arith}
 use native.Mathlib.Nat.{add-zero}
 use lib.Ieee.{nan}
-use Rattle.list_words.proofs.Sums.{getD-within}
+use Rattle.list_words.proofs.Sums.{get_or_within}
 use Rattle.points.specs.Points.{zero_number}
 use borrow.Author.Rules.{rules}
 use Rattle.vertices.proofs.vertex.Statement.{statement}
@@ -43,7 +43,7 @@ shared-slice-read-t16 : tie.Need-shared-slice-read-t16
 shared-slice-read-t16 c = search rules
 
 returns : tie.Need-returns
-returns c = let s = c.before.before.before in let xs = s.args.points.now in let i = s.args.i in rw add-zero (λ j. record { x = getD-within xs (3 * i) nan zero_number (omega arith) j; y = getD-within xs (3 * i + 1) nan zero_number (omega arith) j; z = getD-within xs (3 * i + 2) nan zero_number (omega arith) j })
+returns c = let s = c.before.before.before in let xs = s.args.points.now in let i = s.args.i in rw add-zero (λ j. record { x = get_or_within xs (3 * i) nan zero_number (omega arith) j; y = get_or_within xs (3 * i + 1) nan zero_number (omega arith) j; z = get_or_within xs (3 * i + 2) nan zero_number (omega arith) j })
 
 pub vertex-spec : {M : Type 1} → statement M
 vertex-spec =

@@ -18,8 +18,8 @@ sub-if2 c = search rules
 div-if2 : tie.Need-nonzero-div-if2
 div-if2 c = search rules
 
-returns-2 : tie.Need-returns-2
-returns-2 c = search rules
+returns_2 : tie.Need-returns-2
+returns_2 c = search rules
 
 mul-t5 : tie.Need-overflow-mul-t5
 mul-t5 c = let s = c.before.before in let h = held _ _ _ _ s.requires.0 (search rules) c.if2.false in omega arith
@@ -31,4 +31,4 @@ returns-3 : tie.Need-returns-3
 returns-3 c = search rules
 
 pub longer-spec : {M : Type 1} → statement M
-longer-spec = tie.close (tie.spec returns sub-if2 div-if2 returns-2 mul-t5 add-t6 returns-3)
+longer-spec = tie.close (tie.spec returns sub-if2 div-if2 returns_2 mul-t5 add-t6 returns-3)

@@ -17,8 +17,8 @@ loop-holds c = search rules
 shared-slice-read-digit : tie.Need-shared-slice-read-digit invariant-loop decreases-loop
 shared-slice-read-digit c = search rules
 
-digit-requires : tie.Need-digit-requires invariant-loop decreases-loop
-digit-requires c κs = search rules
+digit_requires : tie.Need-digit-requires invariant-loop decreases-loop
+digit_requires c κs = search rules
 
 longer-requires : tie.Need-longer-requires invariant-loop decreases-loop
 longer-requires c κs = search rules
@@ -35,8 +35,8 @@ loop-less c = search rules
 loop-again : tie.Need-loop-preserved invariant-loop decreases-loop
 loop-again c = search rules
 
-returns-2 : tie.Need-returns-2 invariant-loop decreases-loop
-returns-2 c = search rules
+returns_2 : tie.Need-returns-2 invariant-loop decreases-loop
+returns_2 c = search rules
 
 pub number-of-spec : {M : Type 1} → statement M
 number-of-spec =
@@ -46,10 +46,10 @@ number-of-spec =
     decreases-loop
     loop-holds
     shared-slice-read-digit
-    digit-requires
+    digit_requires
     longer-requires
     returns
     add-i
     loop-less
     loop-again
-    returns-2)
+    returns_2)

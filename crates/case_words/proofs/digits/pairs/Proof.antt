@@ -27,8 +27,8 @@ mul-digit c = search rules
 shared-slice-read-digit : tie.Need-shared-slice-read-digit invariant-loop decreases-loop
 shared-slice-read-digit c = search rules
 
-digit-requires : tie.Need-digit-requires invariant-loop decreases-loop
-digit-requires c κs = search rules
+digit_requires : tie.Need-digit-requires invariant-loop decreases-loop
+digit_requires c κs = search rules
 
 mul-digit-2 : tie.Need-overflow-mul-digit-2 invariant-loop decreases-loop
 mul-digit-2 c = search rules
@@ -39,17 +39,17 @@ add-digit c = search rules
 shared-slice-read-digit-2 : tie.Need-shared-slice-read-digit-2 invariant-loop decreases-loop
 shared-slice-read-digit-2 c = search rules
 
-digit-requires-2 : tie.Need-digit-requires-2 invariant-loop decreases-loop
-digit-requires-2 c κs = search rules
+digit_requires_2 : tie.Need-digit-requires-2 invariant-loop decreases-loop
+digit_requires_2 c κs = search rules
 
 same_length : tie.Need-same-length invariant-loop decreases-loop
 same_length c = search rules
 
-returns-2 : tie.Need-returns-2 invariant-loop decreases-loop
-returns-2 c = search rules
+returns_2 : tie.Need-returns-2 invariant-loop decreases-loop
+returns_2 c = search rules
 
-same-length-2 : tie.Need-same-length-2 invariant-loop decreases-loop
-same-length-2 c = search rules
+same_length_2 : tie.Need-same-length-2 invariant-loop decreases-loop
+same_length_2 c = search rules
 
 returns-3 : tie.Need-returns-3 invariant-loop decreases-loop
 returns-3 c = search rules
@@ -63,8 +63,8 @@ add-bytes c = search rules
 cast-bytes : tie.Need-overflow-cast-bytes invariant-loop decreases-loop
 cast-bytes c = search rules
 
-slice-write-bytes : tie.Need-slice-write-bytes invariant-loop decreases-loop
-slice-write-bytes c = search rules
+slice_write_bytes : tie.Need-slice-write-bytes invariant-loop decreases-loop
+slice_write_bytes c = search rules
 
 add-i : tie.Need-overflow-add-i invariant-loop decreases-loop
 add-i c = search rules
@@ -92,19 +92,19 @@ pairs-spec =
     loop-holds
     mul-digit
     shared-slice-read-digit
-    digit-requires
+    digit_requires
     mul-digit-2
     add-digit
     shared-slice-read-digit-2
-    digit-requires-2
+    digit_requires_2
     same_length
-    returns-2
-    same-length-2
+    returns_2
+    same_length_2
     returns-3
     mul-bytes
     add-bytes
     cast-bytes
-    slice-write-bytes
+    slice_write_bytes
     add-i
     loop-less
     loop-again

@@ -25,14 +25,14 @@ vertex-requires c κs = let s = c.before.before.before.before.before in
     let v = s.requires.0 in
     let i = get_or s.args.halves.now (3 * s.args.h + s.args.k) 0 in
     let b : i < s.args.z.va + s.args.z.vb = rw (lt-ltb _ _ c.if1.true) at s.requires.3 in
-    rw c.before.before.number_at.ensures (omega (arith, b, v.inc-long), omega (arith, b, v.num-long), v.small i)
+    rw c.before.before.number_at.ensures (omega (arith, b, v.inc_long), omega (arith, b, v.num_long), v.small i)
 
 returns : tie.Need-returns
 returns c = let s = c.before.before.before.before.before.before in
     c.vertex.ensures ∙ rw (c.before.before.before.number_at.ensures, lt-ltb _ _ c.before.if1.true)
 
-add-vertex : tie.Need-overflow-add-vertex
-add-vertex c = let s = c.before.before.before.before.before.before in
+add_vertex : tie.Need-overflow-add-vertex
+add_vertex c = let s = c.before.before.before.before.before.before in
     let i = get_or s.args.halves.now (3 * s.args.h + s.args.k) 0 in
     let b : s.args.z.va + i < s.args.z.va + s.args.z.vb = rw (le-ltb _ _ c.before.if1.false) at s.requires.3 in
     record { fits = rw c.before.before.before.number_at.ensures (omega (arith, b, s.requires.1.sized.va, s.requires.1.sized.vb)) }
@@ -42,10 +42,10 @@ vertex-requires-2 c κs = let s = c.before.before.before.before.before.before in
     let v = s.requires.0 in
     let i = get_or s.args.halves.now (3 * s.args.h + s.args.k) 0 in
     let b : s.args.z.va + i < s.args.z.va + s.args.z.vb = rw (le-ltb _ _ c.before.if1.false) at s.requires.3 in
-    rw c.before.before.before.number_at.ensures (omega (arith, b, v.inc-long), omega (arith, b, v.num-long), v.small (s.args.z.va + i))
+    rw c.before.before.before.number_at.ensures (omega (arith, b, v.inc_long), omega (arith, b, v.num_long), v.small (s.args.z.va + i))
 
-returns-2 : tie.Need-returns-2
-returns-2 c = c.vertex2.ensures ∙ rw (c.before.before.before.before.number_at.ensures, le-ltb _ _ c.before.before.if1.false)
+returns_2 : tie.Need-returns-2
+returns_2 c = c.vertex2.ensures ∙ rw (c.before.before.before.before.number_at.ensures, le-ltb _ _ c.before.before.if1.false)
 
 pub corner-spec : {M : Type 1} → statement M
 corner-spec =
@@ -57,6 +57,6 @@ corner-spec =
     mul-if1
     vertex-requires
     returns
-    add-vertex
+    add_vertex
     vertex-requires-2
-    returns-2)
+    returns_2)

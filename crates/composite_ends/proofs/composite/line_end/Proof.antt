@@ -18,8 +18,8 @@ crossing-requires : tie.Need-crossing-requires
 crossing-requires c κs = let s = c.before.before.before.before.before.before in
     let k = s.requires.1 in
     let e = edge_at s.args.halves.now s.args.h in
-    let q = s.requires.0.edge-A s.args.h c.if1.true in
-    rw c.before.before.edge_of.ensures (omega (arith, q, k.first-long), k.within (e + 1) (omega (arith, q)), k.few)
+    let q = s.requires.0.edge_A s.args.h c.if1.true in
+    rw c.before.before.edge_of.ensures (omega (arith, q, k.first_long), k.within (e + 1) (omega (arith, q)), k.few)
 
 returns : tie.Need-returns
 returns c = c.crossing.ensures ∙ rw (c.before.before.before.edge_of.ensures, lt-ltb _ _ c.before.if1.true)
@@ -33,10 +33,10 @@ crossing-requires-2 : tie.Need-crossing-requires-2
 crossing-requires-2 c κs = let s = c.before.before.before.before.before.before.before in
     let k = s.requires.1 in
     let i : s.args.i < s.args.plan.sizes.fa = rw (le-ltb _ _ c.before.if1.false) at s.requires.3 in
-    (omega (arith, i, k.first-long), k.within (s.args.plan.sizes.ea + s.args.i + 1) (omega (arith, i)), k.few)
+    (omega (arith, i, k.first_long), k.within (s.args.plan.sizes.ea + s.args.i + 1) (omega (arith, i)), k.few)
 
-returns-2 : tie.Need-returns-2
-returns-2 c = c.crossing2.ensures ∙ rw (c.before.before.before.before.edge_of.ensures, le-ltb _ _ c.before.before.if1.false)
+returns_2 : tie.Need-returns-2
+returns_2 c = c.crossing2.ensures ∙ rw (c.before.before.before.before.edge_of.ensures, le-ltb _ _ c.before.before.if1.false)
 
 pub line-end-spec : {M : Type 1} → statement M
 line-end-spec =
@@ -48,4 +48,4 @@ line-end-spec =
     returns
     add-crossing
     crossing-requires-2
-    returns-2)
+    returns_2)

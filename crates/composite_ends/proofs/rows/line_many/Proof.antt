@@ -10,8 +10,8 @@ mul-if1 c = search rules
 returns : tie.Need-returns
 returns c = rw (lt-ltb _ _ c.if1.true)
 
-returns-2 : tie.Need-returns-2
-returns-2 c = rw (le-ltb _ _ c.if1.false)
+returns_2 : tie.Need-returns-2
+returns_2 c = rw (le-ltb _ _ c.if1.false)
 
 pub line-many-spec : {M : Type 1} → statement M
-line-many-spec = tie.close (tie.spec mul-if1 returns returns-2)
+line-many-spec = tie.close (tie.spec mul-if1 returns returns_2)

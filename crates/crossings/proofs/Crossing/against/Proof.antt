@@ -6,7 +6,7 @@ use mir.Facts.{to_z-of_z}
 use mir.Val.{to_z, of_z}
 use mir.Syntax.{w32}
 use borrow.Author.Rules.{rules}
-use Rattle.list_words.proofs.Integers.{bnd-neg}
+use Rattle.list_words.proofs.Integers.{bnd_neg}
 use Rattle.crossings.proofs.Fits.{fits_neg}
 use Rattle.crossings.proofs.Crossing.against.Statement.{statement}
 use Rattle.crossings.proofs.Crossing.against.Tie as tie
@@ -25,10 +25,10 @@ sub-t5 c = let n = c.before.self.given.0.0 in
 returns : tie.Need-returns
 returns c = search rules
 
-returns-2 : tie.Need-returns-2
-returns-2 c = let n = c.before.self.given.0.0 in
+returns_2 : tie.Need-returns-2
+returns_2 c = let n = c.before.self.given.0.0 in
     let h : to_z w32 (of_z w32 n) ≡ n = search rules in
-    rw (to_z-of_z (sub-t5 c), h, +ℤ_idl (neg_ℤ n), c.before.self.given.1) (refl, bnd-neg (nat_abs n) n (le_refl _))
+    rw (to_z-of_z (sub-t5 c), h, +ℤ_idl (neg_ℤ n), c.before.self.given.1) (refl, bnd_neg (nat_abs n) n (le_refl _))
 
 pub against-spec : {M : Type 1} → statement M
-against-spec = tie.close (tie.spec enum_told enum-known-self sub-t5 returns returns-2)
+against-spec = tie.close (tie.spec enum_told enum-known-self sub-t5 returns returns_2)

@@ -15,8 +15,8 @@ enum-known-self c = search rules
 returns : tie.Need-returns
 returns c = rw c.enum_told.given.1
 
-returns-2 : tie.Need-returns-2
-returns-2 c = let n = c.before.self.given.0.0 in let h : to_z w32 (of_z w32 n) ≡ n = search rules in rw (h, c.before.self.given.1)
+returns_2 : tie.Need-returns-2
+returns_2 c = let n = c.before.self.given.0.0 in let h : to_z w32 (of_z w32 n) ≡ n = search rules in rw (h, c.before.self.given.1)
 
 pub count_spec : {M : Type 1} → statement M
-count_spec = tie.close (tie.spec enum_told enum-known-self returns returns-2)
+count_spec = tie.close (tie.spec enum_told enum-known-self returns returns_2)

@@ -14,8 +14,8 @@ returns : tie.Need-returns
 unfolding of_bits
 returns c = rw c.enum_told.given.1
 
-returns-2 : tie.Need-returns-2
-returns-2 c = search rules
+returns_2 : tie.Need-returns-2
+returns_2 c = search rules
 
 pub points-spec : {M : Type 1} → statement M
-points-spec = tie.close (tie.spec enum_told enum-known-self returns returns-2)
+points-spec = tie.close (tie.spec enum_told enum-known-self returns returns_2)

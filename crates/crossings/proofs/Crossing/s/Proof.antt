@@ -1,4 +1,4 @@
--- `Crossing::s` meets its contract: the count where `at_least` holds of its points. It is no larger than the count (`S-size`).
+-- `Crossing::s` meets its contract: the count where `at_least` holds of its points. It is no larger than the count (`S_size`).
 use mathlib.Core.Path.{◌≡◌, refl}
 use native.Mathlib.Omega.{arith}
 use mir.Val.{to_z, of_z}
@@ -21,9 +21,9 @@ returns : tie.Need-returns
 unfolding S
 returns c = rw c.enum_told.given.1 (refl, omega arith)
 
-returns-2 : tie.Need-returns-2
+returns_2 : tie.Need-returns-2
 unfolding S
-returns-2 c = let d = c.before.before.before in
+returns_2 c = let d = c.before.before.before in
     let n = d.self.given.0.0 in
     let h : to_z w32 (of_z w32 n) ≡ n = search rules in
     rw (h, d.self.given.1, ← c.before.at_least.ensures, c.if1.true) (refl, omega arith)
@@ -34,4 +34,4 @@ returns-3 c = rw (c.before.before.before.self.given.1, ← c.before.at_least.ens
 
 pub s-spec : {M : Type 1} → statement M
 s-spec =
-    tie.close (tie.spec enum_told enum-known-self at-least-requires returns returns-2 returns-3)
+    tie.close (tie.spec enum_told enum-known-self at-least-requires returns returns_2 returns-3)

@@ -1,7 +1,7 @@
 -- `put_piece` meets its contract.
 use native.Mathlib.Omega.{arith}
 use lib.ListN.{length-set}
-use Rattle.kept_lists.proofs.Single.{behind-two}
+use Rattle.kept_lists.proofs.Single.{behind_two}
 use borrow.Author.Rules.{rules}
 use Rattle.edge_pieces.proofs.quiet.put_piece.Statement.{statement}
 use Rattle.edge_pieces.proofs.quiet.put_piece.Tie as tie
@@ -21,14 +21,14 @@ mul-list-2 c = search rules
 slice-write-list-2 : tie.Need-slice-write-list-2
 slice-write-list-2 c = rw length-set (omega (arith, c.requires))
 
-add-result : tie.Need-overflow-add-result
-add-result c = search rules
+add_result : tie.Need-overflow-add-result
+add_result c = search rules
 
 same_length : tie.Need-same-length
 same_length c = search rules
 
 returns : tie.Need-returns
-returns c = behind-two c.args.list.now c.args.at c.args.from c.args.to c.requires
+returns c = behind_two c.args.list.now c.args.at c.args.from c.args.to c.requires
 
 pub put-piece-spec : {M : Type 1} → statement M
 put-piece-spec =
@@ -39,6 +39,6 @@ put-piece-spec =
     add-list
     mul-list-2
     slice-write-list-2
-    add-result
+    add_result
     same_length
     returns)

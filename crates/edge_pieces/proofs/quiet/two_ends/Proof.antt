@@ -8,9 +8,9 @@ use lib.ListN.{length}
 use Rattle.solids.specs.Solids.{Half}
 use Rattle.results.specs.Pieces.{pieces}
 use Rattle.joined_ends.specs.Words.{flat, Behind}
-use Rattle.joined_ends.proofs.Flat.{behind-none}
+use Rattle.joined_ends.proofs.Flat.{behind_none}
 use Rattle.layouts.proofs.Packing.{is}
-use Rattle.kept_lists.proofs.Single.{no-piece, one_piece, piece_back}
+use Rattle.kept_lists.proofs.Single.{no_piece, one_piece, piece_back}
 use borrow.Author.Rules.{rules}
 use Rattle.edge_pieces.proofs.quiet.two_ends.Statement.{statement}
 use Rattle.edge_pieces.proofs.quiet.two_ends.Tie as tie
@@ -18,7 +18,7 @@ use Rattle.edge_pieces.proofs.quiet.two_ends.Tie as tie
 returns : tie.Need-returns
 returns c = let s = c.before.before.before.before in let a = s.args in
     let e : a.a.count ≡ pos 0 = is 0 (record { sfits = c.before.struct_told.given.1.0.1 }) c.if1.true in
-    rw (no-piece a.a a.b e) (behind-none a.list.now a.at)
+    rw (no_piece a.a a.b e) (behind_none a.list.now a.at)
 
 -- one piece, one way or the other
 one : (c : tie.Then3) → let a = c.before.before.before.before.before.before.before.before.before.before.args in pieces (a.a ∷ a.b ∷ []) ≡ (a.a.vertex, a.b.vertex) ∷ []
@@ -40,16 +40,16 @@ put-piece-requires c κs = let s = c.before.before.before.before.before.before.b
 same_length : tie.Need-same-length
 same_length c = c.before.before.put-piece.auto.1.1.0
 
-returns-2 : tie.Need-returns-2
+returns_2 : tie.Need-returns-2
 unfolding flat flat_map
-returns-2 c = let p = c.before.before.put-piece in let a = c.before.before.before.before.before.before.before.before.before.before.before.before.before.before.args in subst (λ (ps : List Half). Behind (flat ps) a.list.now a.at p.new.1.1.0 p.result) (sym (one c.before.before.before.before)) p.ensures
+returns_2 c = let p = c.before.before.put-piece in let a = c.before.before.before.before.before.before.before.before.before.before.before.before.before.before.args in subst (λ (ps : List Half). Behind (flat ps) a.list.now a.at p.new.1.1.0 p.result) (sym (one c.before.before.before.before)) p.ensures
 
 put-piece-requires-2 : tie.Need-put-piece-requires-2
 unfolding flat flat_map
 put-piece-requires-2 c κs = let s = c.before.before.before.before.before.before.before.before.before.before.before.before.before.before in subst (λ (ps : List Half). s.args.at + length (flat ps) ≤ length s.args.list.now) (back c.before) s.requires
 
-same-length-2 : tie.Need-same-length-2
-same-length-2 c = c.before.before.put-piece2.auto.1.1.0
+same_length_2 : tie.Need-same-length-2
+same_length_2 c = c.before.before.put-piece2.auto.1.1.0
 
 returns-3 : tie.Need-returns-3
 unfolding flat flat_map
@@ -77,9 +77,9 @@ two-ends-spec =
     returns
     put-piece-requires
     same_length
-    returns-2
+    returns_2
     put-piece-requires-2
-    same-length-2
+    same_length_2
     returns-3
     array-set-from-all
     array-set-from-all-2

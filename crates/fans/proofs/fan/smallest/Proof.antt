@@ -8,7 +8,7 @@ use borrow.Author.Rules.{rules}
 use lib.ListN.{length, get_or, take}
 use lib.Seq.{take-suc}
 use Rattle.list_words.specs.Lists.{least}
-use Rattle.list_stores.proofs.Kept.{least-snoc}
+use Rattle.list_stores.proofs.Kept.{least_snoc}
 use Rattle.fans.proofs.fan.smallest.Statement.{statement}
 use Rattle.fans.proofs.fan.smallest.Tie as tie
 
@@ -45,7 +45,7 @@ loop-again c =
     let l = c.before.before.before in
     let a = l.before.before.before.args in
     let h : l.loop.i < length a.list.now = omega arith in
-    (omega arith, c.lesser.ensures ∙ rw (add-one l.loop.i, take-suc a.list.now l.loop.i 0 h, least-snoc, ← l.loop.invariant.1))
+    (omega arith, c.lesser.ensures ∙ rw (add-one l.loop.i, take-suc a.list.now l.loop.i 0 h, least_snoc, ← l.loop.invariant.1))
 
 returns : tie.Need-returns invariant-loop decreases-loop
 returns c = let l = c.before.loop in l.invariant.1 ∙ rw (le_antisymm l.invariant.0 c.loop-test.false)

@@ -10,7 +10,7 @@ use lib.ListN.{length, length-set, get_or}
 use mir.Syntax.{w16}
 use mir.Val.{to_z, of_z}
 use Rattle.list_words.specs.Lists.{nonzero}
-use Rattle.fans.proofs.Numbering.{Numbering, numbering-none, numbering-yes, numbering-no}
+use Rattle.fans.proofs.Numbering.{Numbering, numbering_none, numbering_yes, numbering_no}
 use Rattle.fans.proofs.numbers.number.Statement.{statement}
 use Rattle.fans.proofs.numbers.number.Tie as tie
 
@@ -21,7 +21,7 @@ abbrev decreases-loop : tie.decreases-loop
 decreases-loop inc num₀ from many start k₀ i₀ num k i = many - i
 
 loop-holds : tie.Need-loop-init invariant-loop decreases-loop
-loop-holds c = let a = c.before.args in (omega arith, refl, numbering-none a.inc.now a.num.now a.from a.many a.start)
+loop-holds c = let a = c.before.args in (omega arith, refl, numbering_none a.inc.now a.num.now a.from a.many a.start)
 
 cast-num : tie.Need-overflow-cast-num invariant-loop decreases-loop
 cast-num c = let s = c.before.before.before in let l = c.before.loop in let t = c.loop-test.true in record { fits = omega (arith, t, l.invariant.2.few, s.requires.2, s.requires.3) }
@@ -65,7 +65,7 @@ loop-again c = let s = c.before.before.before.before.before.before in let l = c.
     let kept = ap nonzero (sym e) ∙ sym c.before.kept.ensures in (
       omega (arith, t),
       length-set l.num i l.k ∙ l.invariant.1,
-      ⊎_elim (λ w. rw w.1 (numbering-yes l.invariant.2 t h (kept ∙ w.0.taken))) (λ w. rw w.1 (numbering-no l.invariant.2 t h (kept ∙ w.0.left))) c.if1.branch,
+      ⊎_elim (λ w. rw w.1 (numbering_yes l.invariant.2 t h (kept ∙ w.0.taken))) (λ w. rw w.1 (numbering_no l.invariant.2 t h (kept ∙ w.0.left))) c.if1.branch,
     )
 
 same_length : tie.Need-same-length invariant-loop decreases-loop

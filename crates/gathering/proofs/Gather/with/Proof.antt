@@ -7,7 +7,7 @@ use mir.Facts.{to_z-of_z}
 use borrow.Author.Rules.{rules}
 use Rattle.crossings.specs.Crossings.{S, lies}
 use Rattle.crossings.proofs.Fits.{fits_sum}
-use Rattle.gathering.proofs.Gathering.{added-sized}
+use Rattle.gathering.proofs.Gathering.{added_sized}
 use Rattle.gathering.proofs.Gather.with.Statement.{statement}
 use Rattle.gathering.proofs.Gather.with.Tie as tie
 
@@ -30,25 +30,25 @@ add-t11 c = let d = c.before.before.before.before.before in
 
 returns : tie.Need-returns
 unfolding S lies
-returns c = let a = c.before.before.args in added-sized a.c a.self (rw (c.enum_told.given.1, +ℤ_idl a.self.sum))
+returns c = let a = c.before.before.args in added_sized a.c a.self (rw (c.enum_told.given.1, +ℤ_idl a.self.sum))
 
-returns-2 : tie.Need-returns-2
+returns_2 : tie.Need-returns-2
 unfolding S lies
-returns-2 c = let d = c.before.before.before.before.before in
+returns_2 c = let d = c.before.before.before.before.before in
     let a = d.before.before.args in
     let n = d.c.given.0.0 in
     let h : to_z w32 (of_z w32 n) ≡ n = search rules in
     let i : to_z w32 (of_z w32 a.self.sum) ≡ a.self.sum = search rules in
-    added-sized a.c a.self (rw (to_z-of_z (add-t11 c), h, i, d.c.given.1, ← c.before.before.before.at_least.ensures, c.before.before.if1.true))
+    added_sized a.c a.self (rw (to_z-of_z (add-t11 c), h, i, d.c.given.1, ← c.before.before.before.at_least.ensures, c.before.before.if1.true))
 
 returns-3 : tie.Need-returns-3
 unfolding S lies
 returns-3 c = let d = c.before.before.before.before in
     let a = d.before.before.args in
     let i : to_z w32 (of_z w32 a.self.sum) ≡ a.self.sum = search rules in
-    added-sized a.c a.self (rw (i, d.c.given.1, ← c.before.before.at_least.ensures, c.before.if1.false, +ℤ_idl a.self.sum))
+    added_sized a.c a.self (rw (i, d.c.given.1, ← c.before.before.at_least.ensures, c.before.if1.false, +ℤ_idl a.self.sum))
 
 pub with-spec : {M : Type 1} → statement M
 with-spec =
     tie.close
-    (tie.spec enum_told enum-known-c at-least-requires add-t11 returns returns-2 returns-3)
+    (tie.spec enum_told enum-known-c at-least-requires add-t11 returns returns_2 returns-3)

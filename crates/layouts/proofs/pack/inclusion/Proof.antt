@@ -11,9 +11,9 @@ returns : tie.Need-returns
 unfolding inclusion
 returns c = sym (ap read c.if1.true)
 
-returns-2 : tie.Need-returns-2
+returns_2 : tie.Need-returns-2
 unfolding inclusion
-returns-2 c = sym (ap read c.if2.true)
+returns_2 c = sym (ap read c.if2.true)
 
 returns-3 : tie.Need-returns-3
 unfolding inclusion
@@ -24,4 +24,4 @@ unfolding inclusion
 returns-4 c = let none : c.before.before.before.args.x % 4 ≡ 0 = omega (arith, c.before.before.if1.false, c.before.if2.false, c.if3.false) in sym (ap read none)
 
 pub inclusion-spec : {M : Type 1} → statement M
-inclusion-spec = tie.close (tie.spec returns returns-2 returns-3 returns-4)
+inclusion-spec = tie.close (tie.spec returns returns_2 returns-3 returns-4)

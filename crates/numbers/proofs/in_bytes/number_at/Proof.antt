@@ -5,7 +5,7 @@ use native.Mathlib.Omega.{arith}
 use lib.ListN.{get_or}
 use borrow.Author.Rules.{rules}
 use Rattle.numbers.specs.Numbers.{number, number_at}
-use Rattle.numbers.proofs.Numbers.{number-before, before-lt, fits_8}
+use Rattle.numbers.proofs.Numbers.{number_before, before_lt, fits_8}
 use Rattle.numbers.proofs.in_bytes.number_at.Statement.{statement}
 use Rattle.numbers.proofs.in_bytes.number_at.Tie as tie
 
@@ -46,7 +46,7 @@ module _ (c : tie.After-shared-slice-known invariant-loop decreases-loop) where
   longer =
       let s = c.before.before.before in
       let l = c.before.before.loop in
-      before-lt at n i s.args.bytes.now c.before.loop-test.true l.invariant.0 s.requires.0 byte l.invariant.2
+      before_lt at n i s.args.bytes.now c.before.loop-test.true l.invariant.0 s.requires.0 byte l.invariant.2
 
 cast-number : tie.Need-overflow-cast-number invariant-loop decreases-loop
 cast-number c = omega (arith, byte c)
@@ -64,7 +64,7 @@ loop-again : tie.Need-loop-preserved invariant-loop decreases-loop
 loop-again c =
     let s = c.before.before.before in
     let l = c.before.before.loop in
-    (omega arith, rw l.invariant.1 (sym (number-before (at c) (n c) (i c) s.args.bytes.now c.before.loop-test.true l.invariant.0 s.requires.0)), longer c)
+    (omega arith, rw l.invariant.1 (sym (number_before (at c) (n c) (i c) s.args.bytes.now c.before.loop-test.true l.invariant.0 s.requires.0)), longer c)
 
 returns : tie.Need-returns invariant-loop decreases-loop
 returns c =

@@ -1,6 +1,6 @@
 -- `put_float` meets its contract: the pattern's bytes.
 use borrow.Author.Rules.{rules}
-use Rattle.numbers.specs.Numbers.{float-bytes}
+use Rattle.numbers.specs.Numbers.{float_bytes}
 use Rattle.numbers.proofs.in_bytes.put_float.Statement.{statement}
 use Rattle.numbers.proofs.in_bytes.put_float.Tie as tie
 
@@ -14,7 +14,7 @@ same_length : tie.Need-same-length
 same_length c = search rules
 
 returns : tie.Need-returns
-unfolding float-bytes
+unfolding float_bytes
 returns c = c.before.before.put-number.ensures
 
 pub put-float-spec : {M : Type 1} → statement M

@@ -7,7 +7,7 @@ use lib.ListN.{length, length-set}
 use lib.Seq.{sets}
 use borrow.Author.Rules.{rules}
 use Rattle.numbers.specs.Numbers.{bytes as bytes_of}
-use Rattle.numbers.proofs.Numbers.{left-to-put, all-put}
+use Rattle.numbers.proofs.Numbers.{left_to_put, all_put}
 use Rattle.numbers.proofs.in_bytes.put_number.Statement.{statement}
 use Rattle.numbers.proofs.in_bytes.put_number.Tie as tie
 
@@ -27,8 +27,8 @@ cast-bytes c = search rules
 add-bytes : tie.Need-overflow-add-bytes invariant-loop decreases-loop
 add-bytes c = search rules
 
-slice-write-bytes : tie.Need-slice-write-bytes invariant-loop decreases-loop
-slice-write-bytes c = search rules
+slice_write_bytes : tie.Need-slice-write-bytes invariant-loop decreases-loop
+slice_write_bytes c = search rules
 
 add-i : tie.Need-overflow-add-i invariant-loop decreases-loop
 add-i c = search rules
@@ -40,7 +40,7 @@ loop-again : tie.Need-loop-preserved invariant-loop decreases-loop
 loop-again c =
     let l = c.before.loop in
     let a = c.before.before.args in
-    (omega arith, simp length-set l.invariant.1, left-to-put l.bytes a.at a.n l.i l.rest c.loop-test.true ∙ l.invariant.2)
+    (omega arith, simp length-set l.invariant.1, left_to_put l.bytes a.at a.n l.i l.rest c.loop-test.true ∙ l.invariant.2)
 
 same_length : tie.Need-same-length invariant-loop decreases-loop
 same_length c = search rules
@@ -49,7 +49,7 @@ returns : tie.Need-returns invariant-loop decreases-loop
 returns c =
     let l = c.before.loop in
     let a = c.before.before.args in
-    sym (all-put l.bytes a.at a.n l.i l.rest c.loop-test.false) ∙ l.invariant.2
+    sym (all_put l.bytes a.at a.n l.i l.rest c.loop-test.false) ∙ l.invariant.2
 
 pub put-number-spec : {M : Type 1} → statement M
 put-number-spec =
@@ -60,7 +60,7 @@ put-number-spec =
     loop-holds
     cast-bytes
     add-bytes
-    slice-write-bytes
+    slice_write_bytes
     add-i
     loop-less
     loop-again

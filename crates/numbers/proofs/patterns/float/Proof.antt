@@ -18,9 +18,9 @@ returns c =
     let n = c.before.before.args.pattern in
     zero_by_zero ∙ sym (the_nan (of_bits binary64 n) (sym (nan_bits_is binary64 n) ∙ sym c.before.blank-bits.ensures ∙ c.if1.true))
 
-returns-2 : tie.Need-returns-2
-returns-2 c = search rules
+returns_2 : tie.Need-returns-2
+returns_2 c = search rules
 
 pub float-spec : {M : Type 1} → statement M
 float-spec =
-    tie.close (tie.spec blank-bits-requires float-from-bits-result returns returns-2)
+    tie.close (tie.spec blank-bits-requires float-from-bits-result returns returns_2)

@@ -8,7 +8,7 @@ use borrow.Author.Tests.{lt-ltb, le-ltb}
 use lib.ListN.{length}
 use lib.Dec.{ltb}
 use Rattle.solids.specs.Solids.{Half}
-use Rattle.joined_ends.proofs.Flat.{behind_more, length-numbers}
+use Rattle.joined_ends.proofs.Flat.{behind_more, length_numbers}
 use Rattle.joined_ends.specs.Words.{flat}
 use Rattle.vertex_table.specs.Words as T
 use Rattle.kept_lists.specs.Words as K
@@ -32,8 +32,8 @@ unfolding T.boundary
 room s = by (ltb s.args.x s.args.plan.sizes.fa) (O s) (R s) s.args.to (length s.args.list.now) s.requires.1
   where
     by : (b : Bool) (o w : List Half) (at n : ℕ) → at + length (flat (cond b (o ++ w) (w ++ o))) ≤ n → at + (length (flat o) + length (flat w)) ≤ n
-    by true o w at n h = omega (arith, length-numbers o w, h)
-    by false o w at n h = omega (arith, length-numbers w o, h)
+    by true o w at n h = omega (arith, length_numbers o w, h)
+    by false o w at n h = omega (arith, length_numbers w o, h)
 
 round-requires : tie.Need-round-requires
 round-requires c κs = let s = c.before.before.before.before.before.before.before.before.before in ((s.requires.0.0, s.requires.0.1.edges, s.requires.0.2), omega (arith, room s))
@@ -63,12 +63,12 @@ round-requires-2 c κs =
     let s = o.before.before.before.before.before.before.before.before.before.before in
     ((s.requires.0.0, s.requires.0.1.edges, s.requires.0.2), omega (arith, room s, ap (λ (ps : List Half). length (flat ps)) (same s), o.row2.ensures.next, o.row2.auto.1.1.1.1.1.1.0))
 
-same-length-2 : tie.Need-same-length-2
-same-length-2 c = c.before.before.round2.auto.1.1.1.1.1.1.1.1.0 ∙ c.before.before.before.before.before.before.row2.auto.1.1.1.1.1.1.0
+same_length_2 : tie.Need-same-length-2
+same_length_2 c = c.before.before.round2.auto.1.1.1.1.1.1.1.1.0 ∙ c.before.before.before.before.before.before.row2.auto.1.1.1.1.1.1.0
 
-returns-2 : tie.Need-returns-2
+returns_2 : tie.Need-returns-2
 unfolding T.boundary
-returns-2 c =
+returns_2 c =
     let o = c.before.before.before.before.before.before in
     let s = o.before.before.before.before.before.before.before.before.before.before in
     rw (le-ltb _ _ o.before.before.if1.false) (behind_more (R s) (O s) (rw (same s) at o.row2.ensures) c.before.before.round2.ensures)
@@ -83,5 +83,5 @@ boundary-spec =
     returns
     row-requires-2
     round-requires-2
-    same-length-2
-    returns-2)
+    same_length_2
+    returns_2)

@@ -5,7 +5,7 @@ use Prim.Native.Nat.{ℕ, ◌+◌, ◌*◌, ◌<◌, ◌≤◌}
 use native.Mathlib.Omega.{arith}
 use lib.ListN.{length}
 use Rattle.solids.specs.Solids.{Half}
-use Rattle.joined_ends.proofs.Flat.{behind_more, length-numbers}
+use Rattle.joined_ends.proofs.Flat.{behind_more, length_numbers}
 use Rattle.joined_ends.specs.Words.{flat}
 use Rattle.vertex_table.specs.Words as T
 use Rattle.kept_lists.specs.Words as K
@@ -26,8 +26,8 @@ room : (s : tie.Start) → let x = s.args.x in
 unfolding T.round
 room s =
     let x = s.args.x in
-    let e = length-numbers (H s (3 * x)) (H s (3 * x + 1) ++ H s (3 * x + 2)) in
-    let d = length-numbers (H s (3 * x + 1)) (H s (3 * x + 2)) in
+    let e = length_numbers (H s (3 * x)) (H s (3 * x + 1) ++ H s (3 * x + 2)) in
+    let d = length_numbers (H s (3 * x + 1)) (H s (3 * x + 2)) in
     omega (arith, e, d, s.requires.1)
 
 mul-h : tie.Need-overflow-mul-h
@@ -43,14 +43,14 @@ add-i c = let s = c.before.before.before.before.before.before.before.before.befo
 abbrev first_of : tie.After-half-pieces → tie.Start
 first_of c = c.before.before.before.before.before.before.before.before
 
-next-1 : (c : tie.After-half-pieces) → let s = first_of c in c.half-pieces.result ≡ s.args.to + length (flat (H s (3 * s.args.x)))
-next-1 c = let s = first_of c in rw (← same s (3 * s.args.x) (omega (arith, s.pre.0.2))) c.half-pieces.ensures.next
+next_1 : (c : tie.After-half-pieces) → let s = first_of c in c.half-pieces.result ≡ s.args.to + length (flat (H s (3 * s.args.x)))
+next_1 c = let s = first_of c in rw (← same s (3 * s.args.x) (omega (arith, s.pre.0.2))) c.half-pieces.ensures.next
 
 half-pieces-requires-2 : tie.Need-half-pieces-requires-2
 half-pieces-requires-2 c κs =
     let h = c.before.before.before in
     let s = first_of h in
-    ((s.pre.0.0, s.pre.0.1, omega (arith, s.pre.0.2)), rw (same s (3 * s.args.x + 1) (omega (arith, s.pre.0.2))) (omega (arith, room s, next-1 h, h.half-pieces.auto.1.1.1.1.1.1.1.1.0)))
+    ((s.pre.0.0, s.pre.0.1, omega (arith, s.pre.0.2)), rw (same s (3 * s.args.x + 1) (omega (arith, s.pre.0.2))) (omega (arith, room s, next_1 h, h.half-pieces.auto.1.1.1.1.1.1.1.1.0)))
 
 add-j : tie.Need-overflow-add-j
 add-j c = let s = c.before.before.before.before.before.before.before.before.before.before.before.before.before.before in record { fits = omega (arith, s.requires.0.2, s.requires.0.0.halves.sized.fa, s.requires.0.0.halves.sized.fb) }
@@ -63,7 +63,7 @@ half-pieces-requires-3 c κs =
     let e = h.half-pieces in
     let d = g.half-pieces2 in
     let q = ap (λ (ps : List Half). length (flat ps)) (same s (3 * s.args.x + 1) (omega (arith, s.pre.0.2))) in
-    ((s.pre.0.0, s.pre.0.1, omega (arith, s.pre.0.2)), rw (same s (3 * s.args.x + 2) (omega (arith, s.pre.0.2))) (omega (arith, room s, next-1 h, e.auto.1.1.1.1.1.1.1.1.0, d.ensures.next, q, d.auto.1.1.1.1.1.1.1.1.0)))
+    ((s.pre.0.0, s.pre.0.1, omega (arith, s.pre.0.2)), rw (same s (3 * s.args.x + 2) (omega (arith, s.pre.0.2))) (omega (arith, room s, next_1 h, e.auto.1.1.1.1.1.1.1.1.0, d.ensures.next, q, d.auto.1.1.1.1.1.1.1.1.0)))
 
 same_length : tie.Need-same-length
 same_length c =

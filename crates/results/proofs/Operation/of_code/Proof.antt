@@ -9,8 +9,8 @@ use Rattle.results.proofs.Operation.of_code.Tie as tie
 returns : tie.Need-returns
 returns c = rw c.match.keys1
 
-returns-2 : tie.Need-returns-2
-returns-2 c = rw c.match.keys2
+returns_2 : tie.Need-returns-2
+returns_2 c = rw c.match.keys2
 
 returns-3 : tie.Need-returns-3
 returns-3 c = rw c.match.keys3
@@ -25,4 +25,4 @@ returns-4 : tie.Need-returns-4
 returns-4 c = other c.before.args.code c.match.rest.0.0.1 c.match.rest.0.1 c.match.rest.1
 
 pub of-code-spec : {M : Type 1} → statement M
-of-code-spec = tie.close (tie.spec returns returns-2 returns-3 returns-4)
+of-code-spec = tie.close (tie.spec returns returns_2 returns-3 returns-4)

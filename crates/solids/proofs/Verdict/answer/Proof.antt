@@ -14,9 +14,9 @@ returns : tie.Need-returns
 unfolding answer
 returns c = rw c.enum_told.given.1
 
-returns-2 : tie.Need-returns-2
+returns_2 : tie.Need-returns-2
 unfolding answer
-returns-2 c = rw c.before.self.given.1
+returns_2 c = rw c.before.self.given.1
 
 pub answer-spec : {M : Type 1} → statement M
-answer-spec = tie.close (tie.spec enum_told enum-known-self returns returns-2)
+answer-spec = tie.close (tie.spec enum_told enum-known-self returns returns_2)

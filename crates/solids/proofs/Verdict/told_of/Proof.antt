@@ -12,8 +12,8 @@ enum-known-self c = search rules
 returns : tie.Need-returns
 returns c = rw c.enum_told.given.1
 
-returns-2 : tie.Need-returns-2
-returns-2 c = rw c.before.self.given.1
+returns_2 : tie.Need-returns-2
+returns_2 c = rw c.before.self.given.1
 
 pub told-of-spec : {M : Type 1} → statement M
-told-of-spec = tie.close (tie.spec enum_told enum-known-self returns returns-2)
+told-of-spec = tie.close (tie.spec enum_told enum-known-self returns returns_2)

@@ -2,7 +2,7 @@
 use mathlib.Core.Path.{◌∙◌}
 use native.Mathlib.Omega.{arith}
 use Rattle.kept_lists.specs.Words.{rows, Edges}
-use Rattle.kept_lists.proofs.Marked.{edges-of, edges_more, pairs_of}
+use Rattle.kept_lists.proofs.Marked.{edges_of, edges_more, pairs_of}
 use Rattle.touched_pairs.proofs.fill.fill.Statement.{statement}
 use Rattle.touched_pairs.proofs.fill.fill.Tie as tie
 
@@ -22,7 +22,7 @@ returns c = let e = c.before.before.before.before.before.before.fill-edges in
     let long = e.auto.1.1.1.0 in
     let same = f.auto.1.1.0 in
     λ base.
-    let edges : Edges s.args.z (rows s.args.first.now s.args.crossed.now base) e.new.1.1.1.0 = edges-of (omega (arith, long, s.requires.1.0)) (omega (arith, long, s.requires.1.1)) e.ensures in
+    let edges : Edges s.args.z (rows s.args.first.now s.args.crossed.now base) e.new.1.1.1.0 = edges_of (omega (arith, long, s.requires.1.0)) (omega (arith, long, s.requires.1.1)) e.ensures in
     record { edges = edges_more edges f.ensures.1 same; pairs = pairs_of s.requires.0.1 edges f.ensures.0 (omega (arith, long, same, s.requires.1.0)) (omega (arith, long, same, s.requires.1.1)) }
 
 pub fill_spec : {M : Type 1} → statement M

@@ -3,12 +3,12 @@ use mathlib.Core.Path.{◌≡◌, refl, ◌∙◌}
 use Prim.Native.Nat.{◌-◌, ◌≤◌}
 use native.Mathlib.Omega.{arith}
 use lib.ListN.{length}
-use Rattle.kept_lists.proofs.Marking.{Rows-so-far, rows_more}
+use Rattle.kept_lists.proofs.Marking.{RowsSoFar, rows_more}
 use Rattle.touched_pairs.proofs.fill.fill_edges.Statement.{statement}
 use Rattle.touched_pairs.proofs.fill.fill_edges.Tie as tie
 
 abbrev invariant-loop : tie.invariant-loop
-invariant-loop first crossed z marks₀ n r₀ marks r = (r ≤ n) × Rows-so-far z first crossed marks r × (length marks ≡ length marks₀)
+invariant-loop first crossed z marks₀ n r₀ marks r = (r ≤ n) × RowsSoFar z first crossed marks r × (length marks ≡ length marks₀)
 
 abbrev decreases-loop : tie.decreases-loop
 decreases-loop first crossed z marks₀ n r₀ marks r = n - r

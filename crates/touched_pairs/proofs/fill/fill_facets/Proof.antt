@@ -4,12 +4,12 @@ use Prim.Native.Nat.{◌-◌, ◌≤◌}
 use native.Mathlib.Omega.{arith}
 use lib.ListN.{length}
 use Rattle.kept_lists.specs.Words.{More}
-use Rattle.kept_lists.proofs.Marking.{more-self, more-then, Facets-so-far, facets-more}
+use Rattle.kept_lists.proofs.Marking.{more_self, more_then, FacetsSoFar, facets_more}
 use Rattle.touched_pairs.proofs.fill.fill_facets.Statement.{statement}
 use Rattle.touched_pairs.proofs.fill.fill_facets.Tie as tie
 
 abbrev invariant-loop : tie.invariant-loop
-invariant-loop halves z marks₀ n x₀ marks x = (x ≤ n) × Facets-so-far z halves marks₀ marks x × More marks₀ marks × (length marks ≡ length marks₀)
+invariant-loop halves z marks₀ n x₀ marks x = (x ≤ n) × FacetsSoFar z halves marks₀ marks x × More marks₀ marks × (length marks ≡ length marks₀)
 
 abbrev decreases-loop : tie.decreases-loop
 decreases-loop halves z marks₀ n x₀ marks x = n - x
@@ -18,7 +18,7 @@ add-n : tie.Need-overflow-add-n invariant-loop decreases-loop
 add-n c = let s = c.before.before.before in record { fits = omega (arith, s.requires.0.sized.fa, s.requires.0.sized.fb) }
 
 loop-holds : tie.Need-loop-init invariant-loop decreases-loop
-loop-holds c = (omega arith, record { each = λ x h k. absurd (omega arith) }, more-self c.before.before.before.args.marks.now, refl)
+loop-holds c = (omega arith, record { each = λ x h k. absurd (omega arith) }, more_self c.before.before.before.args.marks.now, refl)
 
 mul-mark-half : tie.Need-overflow-mul-mark-half invariant-loop decreases-loop
 mul-mark-half c = let s = c.before.before.before.before.before in record { fits = omega (arith, c.loop-test.true, s.requires.0.sized.fa, s.requires.0.sized.fb) }
@@ -69,8 +69,8 @@ loop-again c = let l = c.before.before.before.before.before.before.before.before
     let v = c.before.before.before.before.before.before.mark-half2 in
     let w = c.before.before.mark-half3 in (
       omega (arith, c.before.before.before.before.before.before.before.before.before.before.before.before.loop-test.true),
-      facets-more l.invariant.1 l.invariant.2 u.ensures.1 v.ensures.1 w.ensures.1 u.ensures.0 v.ensures.0 w.ensures.0,
-      more-then l.invariant.2 (more-then u.ensures.1 (more-then v.ensures.1 w.ensures.1)),
+      facets_more l.invariant.1 l.invariant.2 u.ensures.1 v.ensures.1 w.ensures.1 u.ensures.0 v.ensures.0 w.ensures.0,
+      more_then l.invariant.2 (more_then u.ensures.1 (more_then v.ensures.1 w.ensures.1)),
       w.auto.1.1.1.1.0 ∙ (v.auto.1.1.1.1.0 ∙ (u.auto.1.1.1.1.0 ∙ l.invariant.3)),
     )
 
