@@ -1,5 +1,7 @@
 // Admission in code: the checks 1 to 6 on one solid, in document 01's order, and those on a point. A solid is two lists that the caller lends:
 // coordinates, three a point, and corners, three vertex numbers a facet.
+#![tactic(auto)]
+
 ghost use Rattle.std.specs.Prelude.{◌≡◌, [], ◌∷◌, ◌/◌, ◌≤◌, length};
 ghost use Rattle.solids.specs.Refusals.{in_order, at_each};
 ghost use Rattle.solids.specs.Solids as So;

@@ -11,7 +11,7 @@ use Rattle.list_words.proofs.Places.{all_get_d}
 use Rattle.list_words.proofs.Sums.{All}
 use Rattle.points.specs.declared.Point.{Point}
 use Rattle.points.specs.declared.Axis.TheVariants.{X, Y, Z}
-use Rattle.points.specs.Points.{zero_number}
+use Rattle.points.specs.Points.{coordinate, zero_number}
 use Rattle.crossings.proofs.Each.{InEdge, InFacet}
 use Rattle.solids.specs.Solids.{Solid, vertices, vertex, corner, edges, edge, facet}
 use Rattle.solids.proofs.Admitted.{Passed}
@@ -42,7 +42,10 @@ Lies Facets P s i = InFacet P (facet s i)
 
 nowhere_sound : Sound nowhere
 unfolding is_nan neg
-nowhere_sound = record { low = λ k. elim k [ X ↦ refl | Y ↦ refl | Z ↦ refl ]; high = λ k. elim k [ X ↦ refl | Y ↦ refl | Z ↦ refl ] }
+nowhere_sound = record {
+      low = λ k. elim k as (λ j. is_nan (coordinate j nowhere.low) ≡ false) [ X ↦ refl | Y ↦ refl | Z ↦ refl ];
+      high = λ k. elim k as (λ j. is_nan (coordinate j nowhere.high) ≡ false) [ X ↦ refl | Y ↦ refl | Z ↦ refl ]
+    }
 
 -- ---- the box round boxes holds what one of them holds
 module _ (box : ℕ → Bounds) (sound : (i : ℕ) → Sound (box i)) (from : ℕ) where

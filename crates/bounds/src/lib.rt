@@ -1,4 +1,6 @@
 // Boxes round edges, facets and all of a solid, and the test whether two boxes are apart: what is apart does not cross.
+#![tactic(auto)]
+
 ghost use Rattle.std.specs.Prelude.{◌≡◌, ◌||◌, ◌*◌, ◌-◌, ◌<◌, ◌≤◌, length};
 ghost use Rattle.std.specs.Float.Ieee.{lt};
 ghost use Rattle.bounds.specs.Words as Bo;
@@ -10,14 +12,14 @@ use points::Point;
 pub const GROUP: usize = 6;
 
 // From low to high, on each axis.
-#[derive(Drop)]
+#[derive(Clone, Copy)]
 pub struct Bounds {
     pub low: Point,
     pub high: Point,
 }
 
 // What a list of boxes is of.
-#[derive(Drop)]
+#[derive(Clone, Copy)]
 pub enum Thing {
     Edges,
     Facets,
@@ -25,7 +27,7 @@ pub enum Thing {
 
 // Which boxes are left out for what lies in a box: those apart from it by some axis; or for vertices those beside it, and those below it, or above it,
 // whose facets count nothing for them.
-#[derive(Drop)]
+#[derive(Clone, Copy)]
 pub enum Far {
     Apart,
     Below,

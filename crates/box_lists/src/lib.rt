@@ -1,4 +1,6 @@
 // The boxes of a solid's edges or facets, in a list of six numbers each, and those of them that are near a box.
+#![tactic(auto)]
+
 ghost use Rattle.std.specs.Prelude.{◌≡◌, ℕ, ◌+◌, ◌*◌, ◌<◌, ◌≤◌, length, get_or};
 ghost use Rattle.std.proofs.lemmas.List.Edits.{sets};
 ghost use Rattle.list_words.specs.Lists.{up_to};

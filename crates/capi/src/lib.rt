@@ -1,4 +1,6 @@
 // The library's public calls for C, Rust and Python: include/ozoravesh.h declares them. Each promises what the call that it passes on promises.
+#![tactic(auto)]
+
 ghost use Rattle.solids.specs.Solids as So;
 ghost use Rattle.solids.specs.Admission as Ad;
 ghost use Rattle.solids.specs.Containment as Co;

@@ -1,4 +1,6 @@
 // The requests on a solid or an origin, one function each: it reads the parts, and where all are understood the answer is printed.
+#![tactic(auto)]
+
 mod calls;
 
 ghost use Rattle.case_words.specs.Words.{Sound};

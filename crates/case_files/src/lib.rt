@@ -1,4 +1,6 @@
 // The requests of the house file and of outage rows: a function reads the parts, and where all are understood the answer is printed.
+#![tactic(auto)]
+
 mod calls;
 
 ghost use Rattle.case_words.specs.Words.{Sound};

@@ -1,4 +1,6 @@
 // The front of a list: its first n members, or all where it has fewer.
+#![tactic(auto)]
+
 ghost use Rattle.std.specs.Prelude.{◌≤◌};
 
 // The lists of a solid that a request brings.

@@ -1,4 +1,6 @@
 // The lines of an answer. They wait in a list that the caller lends, up to at, and go to standard output when it is full or the answer ends. Each function answers the new at. Lines that cannot be written are lost.
+#![tactic(auto)]
+
 ghost use Rattle.std.specs.Prelude.{◌+◌, ◌≤◌, length};
 
 use libc::STDOUT_FILENO;

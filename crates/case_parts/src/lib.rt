@@ -1,2 +1,4 @@
 // The parts that requests are made of, read from the words of standard input.
+#![tactic(auto)]
+
 pub mod parts;

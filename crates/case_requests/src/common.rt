@@ -9,7 +9,7 @@ use numbers::patterns;
 use points::Point;
 
 // The reader behind a solid, and how many numbers of its lists are held.
-#[derive(Drop)]
+#[derive(Clone, Copy)]
 pub struct Held {
     pub reader: Reader,
     pub points: usize,
@@ -41,7 +41,7 @@ pub fn solid(
 }
 
 // The reader behind a point, and the point.
-#[derive(Drop)]
+#[derive(Clone, Copy)]
 pub struct Placed {
     pub reader: Reader,
     pub point: Point,
@@ -67,7 +67,7 @@ pub fn point(buffer: &mut Buffer, letters: &mut Letters, r: Reader) -> Placed
 }
 
 // The reader behind the room of an operation, and the three numbers of the room.
-#[derive(Drop)]
+#[derive(Clone, Copy)]
 pub struct Room {
     pub reader: Reader,
     pub coordinates: usize,

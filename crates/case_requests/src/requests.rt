@@ -4,7 +4,7 @@ ghost use Rattle.case_words.specs.Words.{Sound};
 use case_words::input;
 use case_words::input::{Buffer, Letters, Reader};
 
-#[derive(Drop)]
+#[derive(Clone, Copy)]
 pub enum Kind {
     Op,
     Count,

@@ -2,7 +2,7 @@
 ghost use Rattle.std.specs.Prelude.{◌<◌, ◌≤◌, length};
 
 // A number that a word stands for, if it stands for one.
-#[derive(Drop)]
+#[derive(Clone, Copy)]
 pub struct Number {
     pub known: bool,
     pub value: usize,

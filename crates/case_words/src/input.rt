@@ -10,7 +10,7 @@ pub type Buffer = [u8; 65536];
 pub type Letters = [u8; 131072];
 
 // Where reading stands.
-#[derive(Drop)]
+#[derive(Clone, Copy)]
 pub struct Reader {
     // The buffer holds bytes up to end, and the next one is at at. A proved loop has to end, and nothing says that the input does: so bytes are counted down, from a number that no run uses up, and left of them may still come.
     pub at: usize,

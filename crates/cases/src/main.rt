@@ -1,4 +1,6 @@
 // Answers the requests of the case language on standard input, one after the other.
+#![tactic(auto)]
+
 mod calls;
 
 ghost use Rattle.case_words.specs.Words.{Sound};

@@ -1,4 +1,6 @@
 // What an end of a composite edge is read from: a vertex, or a crossing that is looked up in its row; and what a half-edge's numbers say.
+#![tactic(auto)]
+
 pub mod composite;
 pub mod places;
 pub mod rows;

@@ -1,4 +1,6 @@
 // How often a solid contains a point, with the solid as A and as B, in code.
+#![tactic(auto)]
+
 ghost use Rattle.std.specs.Prelude.{◌≡◌, [], ◌∷◌, ◌+◌, ◌*◌, ◌/◌, ◌<◌, ◌≤◌, length, get_or, nat_abs};
 ghost use Rattle.list_words.specs.Lists.{sum_of, up_to};
 ghost use Rattle.solids.specs.Solids as So;

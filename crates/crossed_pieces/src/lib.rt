@@ -1,5 +1,7 @@
 // The pieces of an edge that is crossed, as one of its half-edges has them: start, end, and the crossings that are marked, in the order of the other
 // solid's facets.
+#![tactic(auto)]
+
 ghost use Rattle.std.specs.Prelude.{◌+◌, ◌≤◌, length};
 ghost use Rattle.joined_ends.specs.Words.{Behind};
 ghost use Rattle.crossed_pieces.specs.Words as Cp;

@@ -1,5 +1,7 @@
 // X of an edge with a facet, and S of a vertex with a facet, without their points: each vertex with each edge once, and of its points only what is
 // asked for.
+#![tactic(auto)]
+
 ghost use Rattle.std.specs.Prelude.{◌≡◌, not, ◌+◌, ◌≤◌, nat_abs, ◌+ℤ◌, ◌-ℤ◌};
 ghost use Rattle.points.specs.Points as P;
 ghost use Rattle.crossings.specs.declared.Crossing.TheVariants.{Miss, Cross};
@@ -10,7 +12,7 @@ use crossings::{Edge, Facet};
 use points::{Axis, Point, PointPair};
 
 // A crossing's count, and y and z of its points on A and on B. A count of 0 is a miss.
-#[derive(Drop)]
+#[derive(Clone, Copy)]
 pub struct Slim {
     pub n: i32,
     pub ay: f64,
@@ -20,7 +22,7 @@ pub struct Slim {
 }
 
 // The sum of S by y, the first plus and the first minus.
-#[derive(Drop)]
+#[derive(Clone, Copy)]
 pub struct Sum {
     pub n: i32,
     pub plus: Slim,

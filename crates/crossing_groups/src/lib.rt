@@ -1,5 +1,7 @@
 // The crossings of rows of one kind with some columns: of one row, of rows that have the same columns, and of rows group by group, each group with
 // those of the columns that are near the box round it.
+#![tactic(auto)]
+
 ghost use Rattle.std.specs.Prelude.{◌≡◌, cond, [], ℕ, ◌+◌, ◌*◌, ◌-◌, ◌<◌, ◌≤◌, nat_abs, length, get_or};
 ghost use Rattle.solids.specs.Solids as So;
 ghost use Rattle.solids.specs.Admission as Ad;
@@ -16,7 +18,7 @@ use crossing_rows::{Listed, Row};
 
 // Rows of one kind, from `begin` to `end`: what their columns are and how many, how many edges of A come before its facets, and the box round B's
 // vertices. Counts are multiplied by `sign`.
-#[derive(Drop)]
+#[derive(Clone, Copy)]
 pub struct Search {
     pub sign: i32,
     pub other: Bounds,

@@ -1,5 +1,7 @@
 // Rows of crossings: an edge of A with facets of B, or a facet of A with edges of B. A crossing that counts is listed as one number with its column and
 // its count.
+#![tactic(auto)]
+
 ghost use Rattle.std.specs.Prelude.{◌≡◌, [], ◌∷◌, ◌<◌, ◌≤◌, nat_abs, length};
 ghost use Rattle.solids.specs.Solids as So;
 ghost use Rattle.edges.specs.Words as Ed;
@@ -10,14 +12,14 @@ use bounds::Bounds;
 use crossings::{Edge, Facet};
 
 // How many were listed, or that there is no room for all.
-#[derive(Drop)]
+#[derive(Clone, Copy)]
 pub enum Listed {
     Found(usize),
     Full,
 }
 
 // An edge of A, whose columns are facets of B, or a facet of A, whose columns are edges of B.
-#[derive(Drop)]
+#[derive(Clone, Copy)]
 pub enum Row {
     OfEdge(Edge),
     OfFacet(Facet),

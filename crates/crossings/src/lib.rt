@@ -1,5 +1,7 @@
 // The things that are paired, one of A with one of B, and what a pairing answers. v is a vertex, e an edge, f a facet, A's thing first: `ef` is an
 // edge of A with a facet of B.
+#![tactic(auto)]
+
 ghost use Rattle.std.specs.Prelude.{◌≡◌, true, false, cond, ◌+◌, ◌<◌, ◌≤◌, ◌^◌, pos, nat_abs, ◌+ℤ◌};
 ghost use Rattle.list_words.specs.Lists.{nonzero};
 ghost use Rattle.points.specs.Points as P;
@@ -8,14 +10,14 @@ ghost use Rattle.crossings.specs.Crossings as C;
 use points::{Axis, Point, PointPair};
 
 // An edge starts at the end with the lower vertex number.
-#[derive(Drop)]
+#[derive(Clone, Copy)]
 pub struct Edge {
     pub start: Point,
     pub end: Point,
 }
 
 // A facet's corners p, q, r, and for each of its half-edges whether it runs along its edge (true) or against it.
-#[derive(Drop)]
+#[derive(Clone, Copy)]
 pub struct Facet {
     pub p: Point,
     pub q: Point,
@@ -26,7 +28,7 @@ pub struct Facet {
 }
 
 // "a pairing either misses, or crosses with its count and two points, one on each thing"
-#[derive(Drop)]
+#[derive(Clone, Copy)]
 pub enum Crossing {
     Miss,
     Cross(i32, PointPair),

@@ -1,5 +1,7 @@
 // The crossings that there are: of edges of A with facets of B, and behind them of facets of A with edges of B, row by row in listing order, each as
 // one number with its column and its count. Only what boxes leave is worked out.
+#![tactic(auto)]
+
 ghost use Rattle.std.specs.Prelude.{◌≡◌, true, ◌+◌, ◌<◌, ◌≤◌, nat_abs, length, take, drop};
 ghost use Rattle.list_words.specs.Lists.{nonzero};
 ghost use Rattle.solids.specs.Solids as So;

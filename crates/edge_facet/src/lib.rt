@@ -1,4 +1,6 @@
 // The crossings of an edge with an edge or a facet.
+#![tactic(auto)]
+
 ghost use Rattle.std.specs.Prelude.{◌≡◌, ◌≤◌, nat_abs};
 ghost use Rattle.crossings.specs.Crossings as C;
 

@@ -1,4 +1,6 @@
 // The pieces of one edge, as one of its half-edges has them: start, end, and the crossings that are marked, in the order of the other solid's facets.
+#![tactic(auto)]
+
 mod quiet;
 
 ghost use Rattle.std.specs.Prelude.{◌+◌, ◌≤◌, length};

@@ -112,7 +112,7 @@ same_self e = of_T (same_half e e) (same_half_self eqb eqb→eq eqb_refl e)
 -- the number of an edge that is there stays, and a new one has the next
 before_in : (d e : Half) (es : List Half) → Memᴰ d es → before same_half d (es ++ (e ∷ [])) ≡ before same_half d es
 unfolding before
-before_in d e [] m = absurd (Memᴰ.not_nil m)
+before_in d e [] m = absurd (Memᴰ.not-nil m)
 before_in d e (x ∷ es) m = go (same_half d x) refl (Memᴰ.cases_cons m) (before_in d e es)
   where
     go :

@@ -1,4 +1,6 @@
 // The edges of a solid in document 01's order, each with its number, from the table of half-edge counts; and an edge read from the list.
+#![tactic(auto)]
+
 ghost use Rattle.std.specs.Prelude.{◌≡◌, [], ◌+◌, ◌*◌, ◌<◌, ◌≤◌, length};
 ghost use Rattle.solids.specs.Solids as So;
 ghost use Rattle.solids.specs.Words as Sw;

@@ -1,4 +1,6 @@
 // The pieces of a facet of A with a facet of B.
+#![tactic(auto)]
+
 ghost use Rattle.std.specs.Prelude.{◌+◌, ◌<◌, ◌≤◌, length};
 ghost use Rattle.results.specs.Pieces.{pieces};
 ghost use Rattle.joined_ends.specs.Words.{flat, Behind};

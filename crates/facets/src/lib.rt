@@ -1,4 +1,6 @@
 // A solid's facets, with their corners as points, from the two lists of a solid.
+#![tactic(auto)]
+
 ghost use Rattle.std.specs.Prelude.{◌≡◌, [], ◌/◌, ◌<◌, length, get_or};
 ghost use Rattle.solids.specs.Solids as So;
 ghost use Rattle.solids.specs.Words as Sw;

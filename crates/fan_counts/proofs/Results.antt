@@ -25,7 +25,7 @@ use Rattle.fan_counts.specs.Words.{Composite}
 -- ---- elements by their keys
 module _ {A B : Type 0} (f : A → B) where
   pub mem_of_map : (l : List A) {y : B} → Memᴰ y (map f l) → (x : A) × Memᴰ x l × (y ≡ f x)
-  mem_of_map [] m = absurd (Memᴰ.not_nil m)
+  mem_of_map [] m = absurd (Memᴰ.not-nil m)
   mem_of_map (z ∷ l) {y} m = go (Memᴰ.cases_cons m) (λ i. mem_of_map l i)
     where
       go : (y ≡ f z) ⊎ Memᴰ y (map f l) → (Memᴰ y (map f l) → (x : A) × Memᴰ x l × (y ≡ f x)) → (x : A) × Memᴰ x (z ∷ l) × (y ≡ f x)
@@ -33,7 +33,7 @@ module _ {A B : Type 0} (f : A → B) where
       go (inr i) ih = let (x, n, e) = ih i in (x, Memᴰ.tail n, e)
 
   same_element : (l : List A) → Distinct (map f l) → (x y : A) → Memᴰ x l → Memᴰ y l → f x ≡ f y → x ≡ y
-  same_element [] d x y m n q = absurd (Memᴰ.not_nil m)
+  same_element [] d x y m n q = absurd (Memᴰ.not-nil m)
   same_element (z ∷ l) d x y m n q = go (Memᴰ.cases_cons m) (Memᴰ.cases_cons n) (same_element l d.1 x y)
     where
       away : (u : A) → Memᴰ u l → f z ≢ f u

@@ -185,7 +185,7 @@ tallied_none = record { pieces = refl; at = refl; low = tt; some = λ k. tt }
 
 -- ---- the least vertex
 least_mem : (l : List ℕ) {v : ℕ} → Memᴰ v l → Memᴰ (least_of l) l
-least_mem [] m = absurd (mathlib.Core.List.Memᴰ.not_nil m)
+least_mem [] m = absurd (mathlib.Core.List.Memᴰ.not-nil m)
 least_mem (x ∷ l) m = least_in x l
 
 -- of any list in which each number stands as often as it has ends

@@ -1,11 +1,13 @@
 // Triangles counted without joining: what the ends of a boundary tell as they come. How many triangles there are does not depend on who is joined to whom.
+#![tactic(auto)]
+
 ghost use Rattle.std.specs.Prelude.{◌≡◌, ◌≤◌, nat_abs};
 ghost use Rattle.fan_counts.specs.Words.{told};
 
 use results::End;
 
 // How many pieces there are, the least vertex so far, and how many ends are there (0: none counts yet).
-#[derive(Drop)]
+#[derive(Clone, Copy)]
 pub struct Tally {
     pub pieces: usize,
     pub least: u32,

@@ -1,4 +1,6 @@
 // Checks 3, 4, 10 and 11 on a solid, and what 3 and 4 look for in a point: a blank, a coordinate beyond the limit, a facet with a fault.
+#![tactic(auto)]
+
 ghost use Rattle.std.specs.Prelude.{◌≡◌, [], ◌/◌, ◌<◌, length};
 ghost use Rattle.std.specs.Float.Ieee.{is_nan};
 ghost use Rattle.list_words.specs.Lists.{any};

@@ -1,4 +1,6 @@
 // How a crossing is gathered from its lower pairings: their sum, the first plus and the first minus.
+#![tactic(auto)]
+
 ghost use Rattle.std.specs.Prelude.{◌≡◌, true, false, cond, ◌+◌, ◌<◌, ◌≤◌, ◌^◌, pos, nat_abs, ◌+ℤ◌};
 ghost use Rattle.list_words.specs.Lists.{nonzero};
 ghost use Rattle.points.specs.Points as P;
@@ -9,7 +11,7 @@ use points::Axis;
 
 // What a pairing takes from its lower pairings: the sum of their S, the first plus and the first minus (Miss where there is none), all by one axis.
 // They are gathered from the last to the first: each takes the place of what was found behind it, and nothing asks whether something was.
-#[derive(Drop)]
+#[derive(Clone, Copy)]
 pub struct Gather {
     pub by: Axis,
     pub sum: i32,

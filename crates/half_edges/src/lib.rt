@@ -1,4 +1,6 @@
 // The list of a solid's half-edges, from the table in which its edges' numbers stand.
+#![tactic(auto)]
+
 ghost use Rattle.std.specs.Prelude.{◌≡◌, [], ◌+◌, ◌*◌, ◌/◌, ◌<◌, ◌≤◌, length};
 ghost use Rattle.std.proofs.lemmas.List.Edits.{sets};
 ghost use Rattle.solids.specs.Solids as So;

@@ -1,9 +1,11 @@
 // House files: a solid as bytes. Numbers stand low byte first.
+#![tactic(auto)]
+
 use points::Point;
 use solids::Answer;
 
 // The record that a part of a house file begins with: a vertex, a facet's three vertex numbers, the end, or none that the layout knows.
-#[derive(Drop)]
+#[derive(Clone, Copy)]
 pub enum Record {
     Vx(Point),
     Fc(u32, u32, u32),
@@ -13,7 +15,7 @@ pub enum Record {
 
 // The answer of a reading; how many vertices and facets were read, and how many bytes that took.
 #[repr(C)]
-#[derive(Drop)]
+#[derive(Clone, Copy)]
 pub struct Read {
     pub answer: Answer,
     pub vertices: usize,
@@ -23,7 +25,7 @@ pub struct Read {
 
 // The answer of a writing, and how many bytes were written.
 #[repr(C)]
-#[derive(Drop)]
+#[derive(Clone, Copy)]
 pub struct Written {
     pub answer: Answer,
     pub used: usize,

@@ -1,4 +1,6 @@
 // The reader: one walk over a file's records, which keeps as much as an admitted solid can have; then the checks; then the lent lists.
+#![tactic(auto)]
+
 ghost use Rattle.std.specs.Prelude.{◌≡◌, [], ◌∷◌, ◌+◌, ◌≤◌, ◌<◌, ◌^◌, length};
 ghost use Rattle.points.specs.Points.{coordinates};
 ghost use Rattle.solids.specs.Solids as So;
@@ -12,7 +14,7 @@ use solids::{Answer, Verdict};
 
 // How far a reader has walked over a file's records: whether there are more to come, whether the layout is broken, the bytes walked over and
 // how many vertices and facets stood there.
-#[derive(Drop)]
+#[derive(Clone, Copy)]
 pub struct Walk {
     pub going: bool,
     pub fault: bool,

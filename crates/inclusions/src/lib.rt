@@ -1,5 +1,7 @@
 // The inclusion of each vertex: how often the other solid contains it, weighed by the operation's numbers. A facet that is beside the vertex, by x or
 // y, or on the side of it that does not count, by z, counts nothing, and is left out; and a vertex outside the box round the other solid is in it 0 times.
+#![tactic(auto)]
+
 ghost use Rattle.std.specs.Prelude.{◌≡◌, List, ◌+◌, ◌*◌, ◌/◌, ◌<◌, ◌≤◌, ℤ, nat_abs, ◌+ℤ◌, ◌*ℤ◌, length, get_or, take, drop};
 ghost use Rattle.list_words.specs.Lists.{sum_of, up_to};
 ghost use Rattle.solids.specs.Solids as So;
@@ -17,7 +19,7 @@ use results::Operation;
 
 // The vertices of one solid, whose box is `own`, as the other counts them, which is B if `as_b` and has the box `other`: `alone` and `times` times the
 // count, from `at` on.
-#[derive(Drop)]
+#[derive(Clone, Copy)]
 pub struct Side {
     pub as_b: bool,
     pub own: Bounds,

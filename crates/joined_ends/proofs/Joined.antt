@@ -110,7 +110,7 @@ unfolding starts stops flat_map
 all_ends {room} {s} {us} {bs} [] h = rw (append-nil us, append-nil bs) h
 all_ends {room} {s} {us} {bs} (e ∷ es) h =
     rw (append_assoc us (replicate (below e.count) e.vertex) (starts es), append_assoc bs (replicate (above e.count) e.vertex) (stops es)) at
-    (all_ends es (one_end e h))
+    (all_ends {s = placed s e} es (one_end e h))
 
 -- ---- where there is room for the pieces: how many they are, and that they stand in front
 joined_pieces : (es : List End) (l : List ℕ) (r : ℕ) → length (flat (pieces es)) ≤ length l → r ≡ min (joined es l).1.starts (joined es l).1.stops

@@ -1,4 +1,3 @@
 pub mod Flat
 pub mod AllPlaced
 pub mod Joined
-pub mod Front

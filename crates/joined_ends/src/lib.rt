@@ -1,4 +1,6 @@
 // The gathered ends of one composite edge, joined into pieces. A piece is two numbers of a list: where it starts and where it ends.
+#![tactic(auto)]
+
 ghost use Rattle.std.specs.Prelude.{◌≡◌, ◌+◌, ◌≤◌, length, take};
 ghost use Rattle.results.specs.Pieces.{pieces};
 ghost use Rattle.joined_ends.specs.Words.{flat, Behind};

@@ -108,12 +108,12 @@ module _ (hs : List ℕ) (z : Sizes) (inc : List ℤ) (num : List ℕ) (w : Rows
   unfolding K.line_ends T.line_ends T.line_of
   tidy_line h m = elim (dec_lt h (3 * z.fa)) [
     | yes k ↦
-        rw (lt-ltb _ _ k)
+        simp (lt-ltb _ _ k)
         (three (vertex inc num (get_or hs (3 * h + 1) 0)) (T.end t (get_or hs (3 * h + 1) 0)) (vertex inc num (get_or hs (3 * h + 2) 0)) (T.end t (get_or hs (3 * h + 2) 0)) (map (K.line_end w hs z h) (up_to z.fb)) (map (λ i. T.end t (T.on_edge z (edge_at hs h) 0 + i * 1)) (up_to z.fb))
         (sym (held.own_A (get_or hs (3 * h + 1) 0) (halves.start_A h k))) (sym (held.own_A (get_or hs (3 * h + 2) 0) (halves.end_A h k))) (along_A h k))
     | no n ↦
         let k : 3 * z.fa ≤ h = omega arith in
-        rw (le-ltb _ _ k)
+        simp (le-ltb _ _ k)
         (three (vertex inc num (z.va + get_or hs (3 * h + 1) 0)) (T.end t (T.of_B z (get_or hs (3 * h + 1) 0))) (vertex inc num (z.va + get_or hs (3 * h + 2) 0)) (T.end t (T.of_B z (get_or hs (3 * h + 2) 0))) (map (K.line_end w hs z h) (up_to z.fa)) (map (λ i. T.end t (T.on_facet z 0 (edge_at hs h) + i * z.eb)) (up_to z.fa))
         (sym (held.own_B (get_or hs (3 * h + 1) 0) (halves.start_B h k m))) (sym (held.own_B (get_or hs (3 * h + 2) 0) (halves.end_B h k m))) (along_B h k m))
   ]
@@ -207,7 +207,7 @@ module _ (M : ℕ → End) where
 
   look_one : (c : ℕ) (cs : List ℕ) → Memᴰ c cs → nonzero (M c).count ≡ true → look c (listed cs) ≡ M c
   unfolding keep
-  look_one c [] m q = absurd (Memᴰ.not_nil m)
+  look_one c [] m q = absurd (Memᴰ.not-nil m)
   look_one c (d ∷ cs) m q = elim (ℕ_discrete d c) [
     | yes e ↦ let f : nonzero (M d).count ≡ true = ap (λ n. nonzero (M n).count) e ∙ q in rw f ((look_kept c d (listed cs) true).0 refl e)
     | no n ↦ (look_kept c d (listed cs) (nonzero (M d).count)).1 n ∙ look_one c cs (rest n (Memᴰ.cases_cons m)) q

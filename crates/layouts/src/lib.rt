@@ -1,8 +1,10 @@
 // How what several crates read lies in lists: how many there are of each thing, and a crossing as one number.
+#![tactic(auto)]
+
 pub mod pack;
 
 // How many vertices, edges and facets A and B have.
-#[derive(Drop)]
+#[derive(Clone, Copy)]
 pub struct Sizes {
     pub va: usize,
     pub ea: usize,
@@ -13,7 +15,7 @@ pub struct Sizes {
 }
 
 // With them the number of the first crossing in the result.
-#[derive(Drop)]
+#[derive(Clone, Copy)]
 pub struct Plan {
     pub sizes: Sizes,
     pub base: usize,

@@ -26,7 +26,7 @@ module _ {K : Type 0} (eq : K → K → Bool) (kept : K → Bool) where
     -- among the kept keys, k stands at its number
     pub number_at : (k : K) (keys : List K) → Memᴰ k keys → kept k ≡ true → get_elem? (keep kept keys) (number k keys) ≡ some k
     unfolding keep before
-    number_at k [] m t = absurd (Memᴰ.not_nil m)
+    number_at k [] m t = absurd (Memᴰ.not-nil m)
     number_at k (x ∷ l) m t = go (eq k x) refl (Memᴰ.cases_cons m) (number_at k l)
       where
         further : (b : Bool) → get_elem? (keep kept l) (number k l) ≡ some k
@@ -56,7 +56,7 @@ module _ {K : Type 0} (eq : K → K → Bool) (kept : K → Bool) where
 -- ---- pieces between numbered keys
 module _ {E K : Type 0} (key : E → K) where
   same_element : (es : List E) → Distinct (map key es) → (e d : E) → Memᴰ e es → Memᴰ d es → key e ≡ key d → e ≡ d
-  same_element [] h e d m n q = absurd (Memᴰ.not_nil m)
+  same_element [] h e d m n q = absurd (Memᴰ.not-nil m)
   same_element (x ∷ es) h e d m n q = go (Memᴰ.cases_cons m) (Memᴰ.cases_cons n) (same_element es h.1 e d)
     where
       apart : (z : E) → Memᴰ z es → key x ≢ key z

@@ -85,7 +85,7 @@ flat_up_to_add f m (suc n) =
 module _ {K : Type 0} (eq : K → K → Bool) (sound : (x y : K) → T (eq x y) → x ≡ y) (self : (x : K) → T (eq x x)) where
   pub place_at : (k : K) (l : List K) (d : K) → Memᴰ k l → (length (before eq k l) < length l) × (get_or l (length (before eq k l)) d ≡ k)
   unfolding before
-  place_at k [] d m = absurd (Memᴰ.not_nil m)
+  place_at k [] d m = absurd (Memᴰ.not-nil m)
   place_at k (x ∷ l) d m = go (eq k x) refl (Memᴰ.cases_cons m) (place_at k l d)
     where
       go : (b : Bool) → eq k x ≡ b → (k ≡ x) ⊎ Memᴰ k l → (Memᴰ k l → (length (before eq k l) < length l) × (get_or l (length (before eq k l)) d ≡ k))

@@ -14,6 +14,7 @@ T_of b e = subst T (sym e) tt
 
 pub of_T : (b : Bool) → T b → b ≡ true
 of_T true t = refl
+of_T false t = elim t [ ]
 
 pub never : (b : Bool) → b ≡ true → b ≡ false → ⊥
 never b e d = true≢false (sym e ∙ d)

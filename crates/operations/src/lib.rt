@@ -1,4 +1,6 @@
 // Union, intersection and difference of two solids: document 01's operation. What is made of two admitted ones is in crates/result_lists.
+#![tactic(auto)]
+
 ghost use Rattle.std.specs.Prelude.{◌≡◌};
 ghost use Rattle.solids.specs.Solids as So;
 ghost use Rattle.solids.specs.Admission as Ad;

@@ -1,4 +1,6 @@
 // What an origin shows: the facet's part of A's or of B's own corner list.
+#![tactic(auto)]
+
 ghost use Rattle.results.specs.Origin as Or;
 ghost use Rattle.origins.specs.Shown as Sh;
 

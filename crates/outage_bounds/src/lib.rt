@@ -1,4 +1,6 @@
 // What may stand in a row's bounds, and the bounds that they give.
+#![tactic(auto)]
+
 ghost use Rattle.std.specs.Prelude.{◌≡◌, ◌||◌, not};
 ghost use Rattle.std.specs.Float.Ieee.{lt};
 ghost use Rattle.list_words.specs.Lists.{any};
@@ -10,7 +12,7 @@ use points::Point;
 use solids::{Answer, Verdict};
 
 // What a check looks for in each bound: 3, 4 or 12.
-#[derive(Drop)]
+#[derive(Clone, Copy)]
 pub enum Fault {
     Missing,
     TooFar,

@@ -1,4 +1,6 @@
 // The box of an outage row: its bytes are decoded, checked, and made into a solid in two lent lists.
+#![tactic(auto)]
+
 ghost use Rattle.std.specs.Prelude.{◌≡◌, cond, ◌+◌, ◌<◌, ◌≤◌, ◌^◌, eqb, length};
 ghost use Rattle.std.proofs.lemmas.List.Edits.{sets};
 ghost use Rattle.list_words.specs.Lists.{onto};

@@ -1,4 +1,6 @@
 // A row's bytes decoded: the one place in code that knows a row's layout.
+#![tactic(auto)]
+
 ghost use Rattle.std.specs.Prelude.{◌≡◌, ◌<◌, length};
 ghost use Rattle.outage_rows.specs.Row as Ro;
 ghost use Rattle.outage_bytes.specs.Words as Ow;

@@ -49,7 +49,7 @@ module _ (bs : List ℕ) where
 
 -- ---- an admitted point
 there : (v : Point) → point_admission v ≡ Accepted → (k : Axis) → is_nan (coordinate k v) ≡ false
-there v e = let (x, (y, (z, end))) = (point_passed v e).present in λ k. elim k [ X ↦ x | Y ↦ y | Z ↦ z ]
+there v e = let (x, (y, (z, end))) = (point_passed v e).present in λ k. elim k as (λ j. is_nan (coordinate j v) ≡ false) [ X ↦ x | Y ↦ y | Z ↦ z ]
 
 contains : (bs : List ℕ) → check_row bs ≡ Accepted → (v : Point) → point_admission v ≡ Accepted
     → count_as_B v (box_of bs) ≡ record { answer = no_refusal; count = cond (inside (bounds (row bs)) v) (pos 1) (pos 0) }

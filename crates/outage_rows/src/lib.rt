@@ -1,23 +1,25 @@
 // An outage row, the six bounds that it gives, and what the call that makes a box of it answers. What they mean is in specs/; the code that reads a
 // row and makes its box is the crate `outage_boxes`.
+#![tactic(auto)]
+
 use points::Point;
 use solids::Answer;
 
 // A bound as it stands in a row: its number, and whether its flag is set, which says that the bound is open.
-#[derive(Drop)]
+#[derive(Clone, Copy)]
 pub struct Bound {
     pub value: f64,
     pub flag: bool,
 }
 
 // The two bounds on one axis.
-#[derive(Drop)]
+#[derive(Clone, Copy)]
 pub struct Range {
     pub low: Bound,
     pub high: Bound,
 }
 
-#[derive(Drop)]
+#[derive(Clone, Copy)]
 pub struct Row {
     pub unit: u16,
     pub x: Range,
@@ -26,7 +28,7 @@ pub struct Row {
 }
 
 // From low to high on each axis, with the limit for what was open.
-#[derive(Drop)]
+#[derive(Clone, Copy)]
 pub struct Span {
     pub low: Point,
     pub high: Point,
@@ -34,7 +36,7 @@ pub struct Span {
 
 // The answer, the sizes of the box, and the unit that the row names.
 #[repr(C)]
-#[derive(Drop)]
+#[derive(Clone, Copy)]
 pub struct Boxed {
     pub answer: Answer,
     pub vertices: usize,

@@ -1,5 +1,7 @@
 // How the starts and stops of the ends of one composite edge are placed on the two sides of pieces. A piece is two numbers of a list: where it starts
 // and where it ends.
+#![tactic(auto)]
+
 ghost use Rattle.std.specs.Prelude.{◌≡◌, ◌+◌, ◌*◌, ◌<◌, ◌≤◌, min};
 ghost use Rattle.list_words.specs.Lists.{above, below};
 ghost use Rattle.placed_ends.specs.Words as Pe;
@@ -7,7 +9,7 @@ ghost use Rattle.placed_ends.specs.Words as Pe;
 use results::End;
 
 // How many starts and how many stops are placed.
-#[derive(Drop)]
+#[derive(Clone, Copy)]
 pub struct Counts {
     pub starts: usize,
     pub stops: usize,

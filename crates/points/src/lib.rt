@@ -1,10 +1,12 @@
 // A point, a crossing's pair of points, the axis that a comparison looks along, and the points worked out from plus and minus.
+#![tactic(auto)]
+
 ghost use Rattle.std.specs.Prelude.{◌≡◌, ◌&&◌};
 ghost use Rattle.std.specs.Float.Ieee.{le};
 ghost use Rattle.points.specs.Points as P;
 
 // Head, flow and output.
-#[derive(Drop)]
+#[derive(Clone, Copy)]
 pub struct Point {
     pub x: f64,
     pub y: f64,
@@ -12,13 +14,13 @@ pub struct Point {
 }
 
 // The point on A's thing and the point on B's.
-#[derive(Drop)]
+#[derive(Clone, Copy)]
 pub struct PointPair {
     pub a: Point,
     pub b: Point,
 }
 
-#[derive(Drop)]
+#[derive(Clone, Copy)]
 pub enum Axis {
     X,
     Y,

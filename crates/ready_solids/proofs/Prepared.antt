@@ -24,7 +24,7 @@ few_corners p = omega (arith, p.corners_whole, p.few_facets)
 -- no edge is listed yet
 pub listed_none : {ends : List ℕ} → length ends ≡ 768 → Listed [] ends (replicate 16384 0) 0
 unfolding flat_map
-listed_none room = record { many = refl; room = room; size = length-replicate {A = ℕ} 16384 0; front = λ few. refl; at = λ e m. absurd (Memᴰ.not_nil m) }
+listed_none room = record { many = refl; room = room; size = length-replicate {A = ℕ} 16384 0; front = λ few. refl; at = λ e m. absurd (Memᴰ.not-nil m) }
 
 pub made_ready : (points : List Float) (corners : List ℕ) {ends numbers : List ℕ} {k : ℕ} → Passed (solid points corners) → Listed (edges (solid points corners)) ends numbers k → Ready points corners ends
 made_ready points corners p listed =

@@ -1,4 +1,6 @@
 // Two solids made ready for the operation: their edges, their half-edges and their sizes.
+#![tactic(auto)]
+
 ghost use Rattle.std.specs.Prelude.{◌≡◌, ◌+◌, ◌*◌, ◌≤◌, length, take, drop};
 ghost use Rattle.std.proofs.lemmas.List.Edits.{sets};
 ghost use Rattle.layouts.specs.Words as La;

@@ -1,5 +1,7 @@
 // The result of an operation on two admitted solids: its crossings are found, everything is counted, then 8 is checked, then the lent lists are
 // written.
+#![tactic(auto)]
+
 ghost use Rattle.std.specs.Prelude.{◌≡◌, ◌≤◌, length};
 ghost use Rattle.solids.specs.Solids as So;
 ghost use Rattle.solids.specs.Admission as Ad;
@@ -13,7 +15,7 @@ use results::{Made, Operation};
 use solids::Answer;
 
 // `Full`: there are more crossings than the list has room for.
-#[derive(Drop)]
+#[derive(Clone, Copy)]
 pub enum Tried {
     Done(Made),
     Full,

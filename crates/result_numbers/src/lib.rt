@@ -1,5 +1,7 @@
 // The vertices of both solids, A's and then B's: their inclusions and their numbers in the result. With them what else an operation asks before it
 // writes: the sign cI, and whether a lent list is too short.
+#![tactic(auto)]
+
 ghost use Rattle.std.specs.Prelude.{◌≡◌, true, ◌||◌, ℕ, ◌+◌, ◌*◌, ◌≤◌, ltb, pos, nat_abs, length, get_or, take, drop};
 ghost use mathlib.Core.List.{flat_map};
 ghost use Rattle.list_words.specs.Lists.{up_to, nonzero};
@@ -47,7 +49,7 @@ pub fn include(
 }
 
 // The number of the first crossing, and how many vertices there are.
-#[derive(Drop)]
+#[derive(Clone, Copy)]
 pub struct Numbers {
     pub base: usize,
     pub all: usize,

@@ -1,4 +1,6 @@
 // The points of the result, one behind the other: the vertices of A that are kept, the crossings row by row, the vertices of B that are kept.
+#![tactic(auto)]
+
 ghost use Rattle.std.specs.Prelude.{◌≡◌, [], ℕ, ◌+◌, ◌/◌, ◌<◌, ◌≤◌, length, get_or, take, drop};
 ghost use Rattle.std.proofs.lemmas.List.Edits.{sets};
 ghost use Rattle.list_words.specs.Lists.{onto};

@@ -1,4 +1,6 @@
 // The lists that the result is made from: what is gathered of both solids, and how many vertices and triangles that gives.
+#![tactic(auto)]
+
 ghost use Rattle.std.specs.Prelude.{◌≡◌, ℕ, ◌≤◌, pos, nat_abs, length, get_or};
 ghost use Rattle.solids.specs.Solids as So;
 ghost use Rattle.solids.specs.Admission as Ad;
@@ -10,7 +12,7 @@ use layouts::{Plan, Sizes};
 use results::Operation;
 
 // The sizes and how many crossings there are. `Full`: more than the list has room for.
-#[derive(Drop)]
+#[derive(Clone, Copy)]
 pub enum Gathered {
     All(Sizes, usize),
     Full,
@@ -52,7 +54,7 @@ pub fn gather(
 }
 
 // The number of the first crossing, and how many vertices and triangles there are.
-#[derive(Drop)]
+#[derive(Clone, Copy)]
 pub struct Measured {
     pub base: usize,
     pub vertices: usize,

@@ -1,4 +1,6 @@
 // All triangles of a result: "A's facets come first, then B's", each with its origin, "A's facet number, or A's facet count plus B's".
+#![tactic(auto)]
+
 mod boundary;
 
 ghost use Rattle.std.specs.Prelude.{◌≤◌, length};

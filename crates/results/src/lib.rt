@@ -1,10 +1,12 @@
 // The operation's type with its three fixed numbers, the record that a composite edge is joined from, and what an operation answers.
+#![tactic(auto)]
+
 ghost use Rattle.std.specs.Prelude.{◌≡◌};
 ghost use Rattle.results.specs.Inclusion as I;
 
 use solids::Answer;
 
-#[derive(Drop)]
+#[derive(Clone, Copy)]
 pub enum Operation {
     Union,
     Intersection,
@@ -12,14 +14,14 @@ pub enum Operation {
 }
 
 // What an operation code stands for.
-#[derive(Drop)]
+#[derive(Clone, Copy)]
 pub enum Chosen {
     Known(Operation),
     Unknown,
 }
 
 // A vertex of the result with its signed end count on one composite edge: above 0 so many ends, below 0 so many starts.
-#[derive(Drop)]
+#[derive(Clone, Copy)]
 pub struct End {
     pub vertex: u32,
     pub count: i32,
@@ -27,7 +29,7 @@ pub struct End {
 
 // The answer of an operation; how many vertices and triangles its result has.
 #[repr(C)]
-#[derive(Drop)]
+#[derive(Clone, Copy)]
 pub struct Made {
     pub answer: Answer,
     pub vertices: usize,
@@ -35,7 +37,7 @@ pub struct Made {
 }
 
 // The three fixed numbers of an operation.
-#[derive(Drop)]
+#[derive(Clone, Copy)]
 pub struct Numbers {
     pub c_a: i32,
     pub c_b: i32,

@@ -1,4 +1,6 @@
 // The program `solid`: one letter and two house files on standard input; the answer, the vertices and the triangles on standard output.
+#![tactic(auto)]
+
 use libc::{STDIN_FILENO, STDOUT_FILENO};
 
 // There is room for one byte more than an input may have, so that a longer one is seen to be too long: the line of these bytes is the line of the

@@ -1,4 +1,6 @@
 // The two solids that an input of the program `solid` holds, in lists that the caller lends, or the refusal that comes before the operation.
+#![tactic(auto)]
+
 ghost use Rattle.std.specs.Prelude.{◌≡◌, length};
 ghost use Rattle.results.specs.declared.Operation.{Operation};
 ghost use Rattle.results.specs.declared.Chosen.TheVariants.{Known};
@@ -10,7 +12,7 @@ use housefile_reader::Walk;
 use solids::{Answer, Verdict};
 
 // `Both`: the operation's code, and the walks over A's and B's files, whose solids are in the fronts of the lists.
-#[derive(Drop)]
+#[derive(Clone, Copy)]
 pub enum Taken {
     Both(u32, Walk, Walk),
     Refused(Answer),

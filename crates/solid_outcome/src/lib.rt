@@ -1,5 +1,7 @@
 // What the program `solid` prints, as a function of its input: what the operation makes of the two solids that the input holds, or a refusal, and the
 // line that says so.
+#![tactic(auto)]
+
 ghost use Rattle.std.specs.Prelude.{◌≡◌};
 ghost use Rattle.solids.specs.Solids as So;
 ghost use Rattle.results.specs.Operation as Op;

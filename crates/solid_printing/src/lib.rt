@@ -1,4 +1,6 @@
 // Three numbers as a line of text: what the program `solid` prints of its outcome.
+#![tactic(auto)]
+
 ghost use Rattle.std.specs.Prelude.{◌≡◌, [], ◌∷◌, ◌+◌, ◌<◌, ◌≤◌, length};
 ghost use Rattle.numbers.specs.Digits as Di;
 ghost use Rattle.results.specs.Operation as Op;

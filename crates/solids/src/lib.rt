@@ -1,5 +1,7 @@
 // What a call answers, what checks say of a solid or a point, and what a point count answers. The checks and the counts themselves are in the crates
 // `admission` and `containment`.
+#![tactic(auto)]
+
 ghost use Rattle.std.specs.Prelude.{◌≡◌};
 ghost use Rattle.solids.specs.Refusals as Re;
 
@@ -17,7 +19,7 @@ pub const THE_POINT: u32 = 4;
 // 0, or the number of a refusal; who it speaks of; and the number of the vertex or facet that it is about, or 0. Each struct that a call answers with
 // begins with one, so that what a refusal carries has one layout.
 #[repr(C)]
-#[derive(Drop)]
+#[derive(Clone, Copy)]
 pub struct Answer {
     pub number: u32,
     pub who: u32,
@@ -97,7 +99,7 @@ impl Answer {
 }
 
 // Accepted, or refused with the answer that a call then gives.
-#[derive(Drop)]
+#[derive(Clone, Copy)]
 pub enum Verdict {
     Accepted,
     Refused(Answer),
@@ -131,7 +133,7 @@ impl Verdict {
 
 // The answer, and how often the solid contains the point.
 #[repr(C)]
-#[derive(Drop)]
+#[derive(Clone, Copy)]
 pub struct Counted {
     pub answer: Answer,
     pub count: i32,

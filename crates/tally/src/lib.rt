@@ -1,4 +1,6 @@
 // Half-edges counted in a table of 128 rows of 128, which is also where the closure test looks.
+#![tactic(auto)]
+
 ghost use Rattle.std.specs.Prelude.{◌≡◌, [], ◌+◌, ◌*◌, ◌/◌, ◌<◌, ◌≤◌, length, get_or, set};
 ghost use Rattle.list_words.specs.Lists.{any};
 ghost use Rattle.solids.specs.Refusals.{at_each};

@@ -1,4 +1,6 @@
 // How many triangles there are, told by the ends of each facet's composite edges as they come: nothing is joined, and no piece is stored.
+#![tactic(auto)]
+
 ghost use Rattle.std.specs.Prelude.{◌≡◌, ◌+◌, ◌*◌, ◌<◌, ◌≤◌, length};
 ghost use mathlib.Core.List.{flat_map};
 ghost use Rattle.list_words.specs.Lists.{up_to};

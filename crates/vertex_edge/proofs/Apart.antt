@@ -38,11 +38,11 @@ half_miss g false p q d e = ap against e
 module _ (t : Bool) where
   pub miss_ve : (v : Point) (e : Edge) → side v e.start ≡ t → side v e.end ≡ t → ve v e ≡ Miss
   unfolding ve paired crossing S sum_of
-  miss_ve v e d f = rw (d, f) (elim t [ true ↦ refl | false ↦ refl ])
+  miss_ve v e d f = elim t as (λ s. side v e.start ≡ s → side v e.end ≡ s → ve v e ≡ Miss) [ true ↦ λ p q. rw (p, q) | false ↦ λ p q. rw (p, q) ] d f
 
   pub miss_ev : (e : Edge) (v : Point) → side e.start v ≡ t → side e.end v ≡ t → ev e v ≡ Miss
   unfolding ev paired crossing S sum_of
-  miss_ev e v d f = rw (d, f) (elim t [ true ↦ refl | false ↦ refl ])
+  miss_ev e v d f = elim t as (λ s. side e.start v ≡ s → side e.end v ≡ s → ev e v ≡ Miss) [ true ↦ λ p q. rw (p, q) | false ↦ λ p q. rw (p, q) ] d f
 
   pub miss_vf : (v : Point) (f : Facet) → side v f.p ≡ t → side v f.q ≡ t → side v f.r ≡ t → vf v f ≡ Miss
   unfolding vf

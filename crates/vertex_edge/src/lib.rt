@@ -1,4 +1,6 @@
 // The crossings of a vertex with a vertex or an edge.
+#![tactic(auto)]
+
 ghost use Rattle.std.specs.Prelude.{◌≡◌, true, cond, ◌≤◌, nat_abs};
 ghost use Rattle.points.specs.Points as P;
 ghost use Rattle.crossings.specs.Crossings as C;

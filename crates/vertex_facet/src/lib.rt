@@ -1,4 +1,6 @@
 // The crossings of a vertex with a facet.
+#![tactic(auto)]
+
 ghost use Rattle.std.specs.Prelude.{◌≡◌, true, ◌≤◌, nat_abs};
 ghost use Rattle.crossings.specs.Crossings as C;
 

@@ -1,4 +1,6 @@
 // A solid's vertices, as points.
+#![tactic(auto)]
+
 ghost use Rattle.std.specs.Prelude.{◌≡◌, [], ◌/◌, ◌<◌, length};
 ghost use Rattle.solids.specs.Solids as So;
 

@@ -1,0 +1,22 @@
+-- `admit_point` meets its contract: 3 before 4.
+use mathlib.Core.Path.{sym, ap, ◌∙◌}
+use Rattle.solids.specs.declared.Verdict.TheVariants.{Refused}
+use Rattle.solids.proofs.Orders.{point_first_3, point_then_4, point_else_accepted}
+use Rattle.admission.proofs.admit_point.Goals as goal
+
+pub returns-then-bad_point : goal.returns-then-bad_point
+returns-then-bad_point c =
+    let d = c in
+    ap Refused c.on_point.ensures ∙ sym (point_first_3 d.args.v (sym d.bad_point.ensures ∙ d.if-bad_point.true))
+
+pub returns-then-bad_point-2 : goal.returns-then-bad_point-2
+returns-then-bad_point-2 c =
+    let e = c in
+    let d = e in
+    ap Refused c.on_point-then-bad_point-2.ensures
+    ∙ sym (point_then_4 d.args.v (sym d.bad_point.ensures ∙ d.if-bad_point.false) (sym e.bad_point-2.ensures ∙ e.if-bad_point-2.true))
+
+pub returns : goal.returns
+returns c =
+    let d = c in
+    sym (point_else_accepted d.args.v (sym d.bad_point.ensures ∙ d.if-bad_point.false) (sym c.bad_point-2.ensures ∙ c.if-bad_point-2.false))
