@@ -63,6 +63,7 @@ impl Crossing {
     }
 
     // "S equals X if X is not 0 and B's coordinate at the pair of points is at least A's; otherwise S is 0."
+    #[tactic(auto, unfolding(crate::specs::Crossings::S))]
     pub fn s(self, k: Axis) -> i32
         ensures value { result ≡ C.S k self }
         ensures small { nat_abs result ≤ nat_abs (C.count self) }

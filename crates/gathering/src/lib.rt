@@ -32,6 +32,7 @@ impl Gather {
         }
     }
 
+    #[tactic(auto, unfolding(crossings::specs::Crossings::S, crossings::specs::Crossings::lies))]
     pub fn with(self, c: Crossing) -> Gather
         requires { nat_abs (C.count c) + nat_abs self.sum < 2 ^ 31 }
         ensures value { result ≡ record {

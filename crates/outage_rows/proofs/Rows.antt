@@ -88,7 +88,7 @@ fine bs e =
         | true ↦ elim k [ X ↦ (near_bound r.x.high a1 b1).1 | Y ↦ (near_bound r.y.high a3 b3).1 | Z ↦ (near_bound r.z.high a5 b5).1 ]
         | false ↦ elim k [ X ↦ (near_bound r.x.low a0 b0).0 | Y ↦ (near_bound r.y.low a2 b2).0 | Z ↦ (near_bound r.z.low a4 b4).0 ]
       ];
-      up = λ k. elim k as (λ j. lt (coordinate j b.low) (coordinate j b.high) ≡ true) [ X ↦ not_false _ ux | Y ↦ not_false _ uy | Z ↦ not_false _ uz ];
+      up = λ k. elim k as (λ j. lt (coordinate j (bounds r).low) (coordinate j (bounds r).high) ≡ true) [ X ↦ not_false _ ux | Y ↦ not_false _ uy | Z ↦ not_false _ uz ];
     }
 
 -- ---- the box of fine bounds

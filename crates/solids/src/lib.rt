@@ -107,6 +107,7 @@ pub enum Verdict {
 
 impl Verdict {
     // "Answer 0 is success."
+    #[tactic(auto, unfolding(crate::specs::Refusals::answer))]
     pub fn answer(self) -> Answer
         ensures { result ≡ Re.answer self }
     {

@@ -10,34 +10,34 @@ use Rattle.solids.proofs.Admitted.{even, few, all_fine}
 use Rattle.solids.proofs.Closure.{low, closure_each}
 use Rattle.admission.proofs.admit.Goals as goal
 
-abbrev of : goal.After-check-lists → Solid
+abbrev of : goal.After-check_lists-of_lists → Solid
 of c = let a = c.args in solid a.points.now a.corners.now
 
 -- ---- what is known behind each check
-abbrev of-1 : goal.After-enum-told → Solid
+abbrev of-1 : goal.In_default → Solid
 of-1 c = of c
 
-lists : (c : goal.After-enum-told) → (uneven (of-1 c) ≡ false) × (too_many (of-1 c) ≡ false)
+lists : (c : goal.In_default) → (uneven (of-1 c) ≡ false) × (too_many (of-1 c) ≡ false)
 lists c = lists_fine (of-1 c) (sym c.check_lists-of_lists.ensures ∙ c.enum_told-1.given.1)
 
-abbrev of-2 : goal.After-enum-told2 → Solid
+abbrev of-2 : goal.In_default-of_blanks → Solid
 of-2 c = of-1 c
 
-blanks : (c : goal.After-enum-told2) → check_blanks (of-2 c) ≡ Accepted
+blanks : (c : goal.In_default-of_blanks) → check_blanks (of-2 c) ≡ Accepted
 unfolding check_blanks
 blanks c = sym c.check_points-of_blanks.ensures ∙ c.enum_told-in_default-of_blanks-1.given.1
 
-abbrev of-3 : goal.After-enum-told3 → Solid
+abbrev of-3 : goal.In_default-of_limit → Solid
 of-3 c = of-2 c
 
-limits : (c : goal.After-enum-told3) → check_limit (of-3 c) ≡ Accepted
+limits : (c : goal.In_default-of_limit) → check_limit (of-3 c) ≡ Accepted
 unfolding check_limit
 limits c = sym c.check_points-of_limit.ensures ∙ c.enum_told-in_default-of_limit-1.given.1
 
-abbrev of-4 : goal.After-enum-told4 → Solid
+abbrev of-4 : goal.In_default-of_corners → Solid
 of-4 c = of-3 c
 
-facets_fine : (c : goal.After-enum-told4) → check_corners (of-4 c) ≡ Accepted
+facets_fine : (c : goal.In_default-of_corners) → check_corners (of-4 c) ≡ Accepted
 facets_fine c = sym c.check_corners-of_corners.ensures ∙ c.enum_told-in_default-of_corners-1.given.1
 
 pub returns-in-Refused : goal.returns-in-Refused
@@ -73,9 +73,9 @@ check_closure-requires c =
     (low s e.1 f.0 (all_fine s (facets_fine c)), omega (arith, e, f))
 
 -- of check 6 the corners alone are looked at
-pub returns : goal.returns
+pub returns-in-Refused : goal.returns
 unfolding check_half_edges half_edges
-returns c =
+returns-in-Refused c =
     let k = c in
     let g = k in
     let d = g in

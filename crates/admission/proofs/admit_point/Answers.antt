@@ -16,7 +16,7 @@ returns-then-bad_point-2 c =
     ap Refused c.on_point-then-bad_point-2.ensures
     ∙ sym (point_then_4 d.args.v (sym d.bad_point.ensures ∙ d.if-bad_point.false) (sym e.bad_point-2.ensures ∙ e.if-bad_point-2.true))
 
-pub returns : goal.returns
-returns c =
+pub returns-then-bad_point : goal.returns
+returns-then-bad_point c =
     let d = c in
     sym (point_else_accepted d.args.v (sym d.bad_point.ensures ∙ d.if-bad_point.false) (sym c.bad_point-2.ensures ∙ c.if-bad_point-2.false))

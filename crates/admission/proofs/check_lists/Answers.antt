@@ -34,8 +34,8 @@ returns-then-corners-gt256 c =
     let s = c in
     rw (eq-eqb (of-points s % 3) 0 c.if-points-ne0.false, eq-eqb (of-corners s % 3) 0 c.if-corners-ne0.false, le-ltb 128 (of-points s / 3) (omega (arith, c.if-points-gt128.false)), lt-ltb 256 (of-corners s / 3) (omega (arith, c.if-corners-gt256.true)))
 
-pub returns : goal.returns
+pub returns-then-points-ne0 : goal.returns
 unfolding in_order check_lengths uneven check_sizes too_many
-returns c =
+returns-then-points-ne0 c =
     let s = c in
     rw (eq-eqb (of-points s % 3) 0 c.if-points-ne0.false, eq-eqb (of-corners s % 3) 0 c.if-corners-ne0.false, le-ltb 128 (of-points s / 3) (omega (arith, c.if-points-gt128.false)), le-ltb 256 (of-corners s / 3) (omega (arith, c.if-corners-gt256.false)))

@@ -1,0 +1,11 @@
+use Prim.Native.Nat.{◌-◌}
+use Rattle.solids.specs.Solids.{solid}
+use Rattle.crossing_points.specs.Words.{point_on}
+use Rattle.crossing_points.proofs.Stretches.{Stretched}
+use Rattle.crossing_points.proofs.put_row.Given as goal
+
+abbrev pub invariant-loop-k : goal.invariant-loop-k
+invariant-loop-k l = Stretched (point_on l.row (solid l.bp l.bc)) l.crossed l.from l.to l.initial.list l.list l.at l.next l.k
+
+abbrev pub decreases-loop-k : goal.decreases-loop-k
+decreases-loop-k l = l.to - l.k
