@@ -37,9 +37,16 @@ module _ (inc : List ℤ) (num : List ℕ) (w : Rows) (hs : List ℕ) (z : Sizes
         }
 
     -- all ends came, and are joined
-    pub going_all : {i : ℕ} → Going o to l c all 0 i → i ≡ line_many z h → to + length (flat (half inc num w hs z h)) ≤ length o
+    going_all : {i : ℕ} → Going o to l c all 0 i → i ≡ line_many z h → to + length (flat (half inc num w hs z h)) ≤ length o
         → Behind (flat (half inc num w hs z h)) o to l (to + 2 * min c.starts c.stops)
     going_all {i} g e k =
         let q : pieces g.done ≡ half inc num w hs z h = rw (append-nil g.done) at (gathered_all inc num w hs z h g.gathered e) in
         subst (λ (ps : List Half). Behind (flat ps) o to l (to + 2 * min c.starts c.stops)) q
         (laid_behind g.laid (subst (λ (ps : List Half). to + length (flat ps) ≤ length o) (sym q) k))
+
+  -- the rest is joined, and that is all
+  pub going_last : {o : List ℕ} {to : ℕ} {l : List ℕ} {c : Counts} {all : List End} {n i : ℕ} → Going o to l c all n i → (p : List ℕ) (d : Counts) → to ≤ length o
+      → length p ≡ length (take (length l - to) (drop to l))
+      → (p ≡ (all_placed (take (length l - to) (drop to l), c) (take n all)).0) × (d ≡ (all_placed (take (length l - to) (drop to l), c) (take n all)).1) → i ≡ line_many z h
+      → to + length (flat (half inc num w hs z h)) ≤ length o → Behind (flat (half inc num w hs z h)) o to (take to l ++ (p ++ drop (length l - to) (drop to l))) (to + 2 * min d.starts d.stops)
+  going_last g p d k m e q r = going_all (going_joined g p d k m e) q r

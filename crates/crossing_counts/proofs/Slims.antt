@@ -1,13 +1,10 @@
 -- What is gathered from slim crossings gives S by z of the pairing that they are the lower ones of.
-use mathlib.Core.Path.{◌≡◌, refl, sym, ap, subst, ◌∙◌}
+use mathlib.Core.Path.{◌≡◌, refl, sym, ap, ◌∙◌}
 use mathlib.Core.Bool.{Bool, true, false, not, cond}
 use mathlib.Core.List.{List, [], ◌∷◌, map}
-use lib.IntN.{ℤ, pos, negsuc, neg_ℤ, nat_abs, ◌+ℤ◌, +ℤ_idl}
+use lib.IntN.{ℤ, pos, negsuc, neg_ℤ, ◌+ℤ◌, +ℤ_idl}
 use lib.Ieee.{le}
-use Prim.Native.Nat.{zero, suc, ◌+◌, ◌≤◌}
-use native.Mathlib.Nat.{le_refl}
-use native.Mathlib.Omega.{arith}
-use Rattle.list_words.proofs.Integers.{bnd_add}
+use Prim.Native.Nat.{zero, suc}
 use Rattle.list_words.specs.Lists.{sum_of, nonzero}
 use Rattle.list_words.proofs.Sums.{All}
 use Rattle.points.specs.declared.PointPair.{PointPair}
@@ -19,7 +16,7 @@ use Rattle.crossings.specs.declared.Crossing.TheVariants.{Miss, Cross}
 use Rattle.crossings.specs.Crossings.{points, S, against, lies, first, crossing, paired}
 use Rattle.crossing_counts.specs.declared.Slim.{Slim}
 use Rattle.crossing_counts.specs.declared.Sum.{Sum}
-use Rattle.crossing_counts.specs.Words.{slim, ends, turned, with, gathered, counted, reaches, shade}
+use Rattle.crossing_counts.specs.Words.{slim, ends, turned, with, gathered, counted, shade}
 
 -- a crossing has a count that is not 0
 abbrev pub Proper : Crossing → Type 0
@@ -100,40 +97,6 @@ gathered_count (c ∷ cs) = with_count c (gathered cs) ∙ ap (λ z. counted c +
 pub shade_none : (cs : List Slim) → nonzero (sum_of counted cs) ≡ false → shade (gathered cs) ≡ pos 0
 unfolding shade
 shade_none cs h = rw (gathered_count cs, h)
-
-pub counted_turned : (c : Slim) → counted (turned c) ≡ neg_ℤ (counted c)
-counted_turned c = go (le c.ay c.by)
-  where
-    go : (b : Bool) → cond b (neg_ℤ c.n) (pos 0) ≡ neg_ℤ (cond b c.n (pos 0))
-    go true = refl
-    go false = refl
-
--- ---- sizes
-module _ (c : Slim) (g : Sum) where
-  with_size : nat_abs c.n ≤ 1 → nat_abs (with c g).n ≤ nat_abs g.n + 1
-  unfolding with
-  with_size h = go (nonzero c.n) (le c.ay c.by)
-    where
-      go : (a b : Bool) → nat_abs (cond {A = Sum} a (cond b (record { n = c.n +ℤ g.n; plus = c; minus = g.minus }) (record { n = g.n; plus = g.plus; minus = c })) g).n ≤ nat_abs g.n + 1
-      go true true = omega (arith, bnd_add (nat_abs c.n) (nat_abs g.n) c.n g.n (le_refl _) (le_refl _))
-      go true false = omega arith
-      go false b = omega arith
-
-  pub with_sized : {r : Sum} → nat_abs c.n ≤ 1 → r ≡ with c g → (r ≡ with c g) × (nat_abs r.n ≤ nat_abs g.n + 1)
-  with_sized h e = (e, subst (λ (x : Sum). nat_abs x.n ≤ nat_abs g.n + 1) (sym e) (with_size h))
-
-module _ (g : Sum) where
-  shade_size : nat_abs (shade g) ≤ nat_abs g.n
-  unfolding shade
-  shade_size = go (nonzero g.n) (reaches g)
-    where
-      go : (a b : Bool) → nat_abs (cond a (cond b g.n (pos 0)) (pos 0)) ≤ nat_abs g.n
-      go true true = omega arith
-      go true false = omega arith
-      go false b = omega arith
-
-  pub shade_sized : {r : ℤ} → r ≡ shade g → (r ≡ shade g) × (nat_abs r ≤ nat_abs g.n)
-  shade_sized e = (e, subst (λ z. nat_abs z ≤ nat_abs g.n) (sym e) shade_size)
 
 -- ---- a vertex with an edge, by its two comparisons
 abbrev pub told : Bool → PointPair → PointPair → Bool → Bool → Crossing

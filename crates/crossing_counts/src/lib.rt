@@ -42,6 +42,7 @@ fn miss() -> Slim
     }
 }
 
+#[tactic(auto, unfolding(points::specs::Points::placed, points::specs::Points::pair_at, points::specs::Points::point_at))]
 fn placed(n: i32, plus: PointPair, minus: PointPair) -> Slim
     requires { nat_abs n ≤ 1 }
     ensures value { result ≡ Co.slim (Cross n (P.placed Axis.X plus minus)) }
@@ -80,6 +81,7 @@ fn level(rising: bool, start: PointPair, end: PointPair) -> Slim
     miss()
 }
 
+#[tactic(auto, unfolding(crossings::specs::Crossings::ve))]
 fn ve(v: Point, e: Edge) -> Slim
     ensures value { result ≡ Co.slim (C.ve v e) }
     ensures small { nat_abs result.n ≤ 1 }
@@ -91,6 +93,7 @@ fn ve(v: Point, e: Edge) -> Slim
     level(true, start, end)
 }
 
+#[tactic(auto, unfolding(crossings::specs::Crossings::ev))]
 fn ev(e: Edge, v: Point) -> Slim
     ensures value { result ≡ Co.slim (C.ev e v) }
     ensures small { nat_abs result.n ≤ 1 }
@@ -132,6 +135,7 @@ fn nothing() -> Sum
     }
 }
 
+#[tactic(auto, unfolding(crate::specs::Words::with))]
 fn with(g: Sum, c: Slim) -> Sum
     requires { (nat_abs c.n ≤ 1) × (nat_abs g.n ≤ 8) }
     ensures value { result ≡ Co.with c g }
@@ -185,6 +189,7 @@ fn added(a: i32, b: i32, c: i32, d: i32) -> i32
 }
 
 // S by z.
+#[tactic(auto, unfolding(crate::specs::Words::shade))]
 fn shade(g: Sum) -> i32
     ensures value { result ≡ Co.shade g }
     ensures small { nat_abs result ≤ nat_abs g.n }
@@ -204,6 +209,7 @@ fn shade(g: Sum) -> i32
 }
 
 // S by z of a vertex with a facet, from the vertex with the facet's three edges, each turned or not.
+#[tactic(auto, unfolding(crate::specs::Words::gathered, crate::specs::Words::three))]
 fn gather_three(tx: bool, x: Slim, ty: bool, y: Slim, tz: bool, z: Slim) -> i32
     requires { (nat_abs x.n ≤ 1) × (nat_abs y.n ≤ 1) × (nat_abs z.n ≤ 1) }
     ensures value { result ≡ Co.three tx x ty y tz z }
@@ -228,6 +234,7 @@ fn three(tx: bool, x: Slim, ty: bool, y: Slim, tz: bool, z: Slim) -> i32
 }
 
 // S by z of two edges, from A's start and end with B's edge and from A's edge with B's start and end.
+#[tactic(auto, unfolding(crate::specs::Words::gathered, crate::specs::Words::four))]
 fn gather_four(s: Slim, t: Slim, u: Slim, v: Slim) -> i32
     requires { (nat_abs s.n ≤ 1) × (nat_abs t.n ≤ 1) × (nat_abs u.n ≤ 1) × (nat_abs v.n ≤ 1) }
     ensures value { result ≡ Co.four s t u v }

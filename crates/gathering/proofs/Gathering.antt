@@ -2,11 +2,8 @@
 use mathlib.Core.Path.{◌≡◌, refl, ap, ap₂, ◌∙◌}
 use mathlib.Core.Bool.{Bool, true, false, cond}
 use mathlib.Core.List.{List, [], ◌∷◌}
-use Prim.Native.Nat.{ℕ, ◌+◌, ◌≤◌}
-use native.Mathlib.Nat.{le_refl}
-use lib.IntN.{pos, nat_abs, ◌+ℤ◌}
+use lib.IntN.{pos, ◌+ℤ◌}
 use Rattle.list_words.specs.Lists.{sum_of, nonzero}
-use Rattle.list_words.proofs.Integers.{Bnd, bnd_add}
 use Rattle.points.specs.declared.Point.{Point}
 use Rattle.points.specs.declared.Axis.{Axis}
 use Rattle.points.specs.Points.{placed}
@@ -14,8 +11,7 @@ use Rattle.crossings.specs.declared.Edge.{Edge}
 use Rattle.crossings.specs.declared.Crossing.{Crossing}
 use Rattle.crossings.specs.declared.Crossing.TheVariants.{Miss, Cross}
 use Rattle.gathering.specs.declared.Gather.{Gather}
-use Rattle.crossings.specs.Crossings.{count, points, S, against, lies, first, crossing, paired, half}
-use Rattle.crossings.proofs.Sizes.{S_size}
+use Rattle.crossings.specs.Crossings.{points, S, against, lies, first, crossing, paired, half}
 
 -- what `Gather::with` and `Gather::finish` answer
 abbrev pub added : Crossing → Gather → Gather
@@ -43,14 +39,6 @@ gathered_is k (c ∷ cs) = ap (added c) (gathered_is k cs)
 pub gathered_paired : (k : Axis) (cs : List Crossing) → finished (gathered k cs) ≡ paired k cs
 unfolding paired crossing
 gathered_paired k cs = ap finished (gathered_is k cs)
-
--- ---- a half-edge by its edge, as `edge_of` and `Crossing::signed` give it
-abbrev pub edge_at : Bool → Point → Point → Edge
-edge_at w p q = cond w (record { start = p; end = q }) (record { start = q; end = p })
-
-pub half_at : (g : Edge → Crossing) (w : Bool) (p q : Point) → cond w (g (edge_at w p q)) (against (g (edge_at w p q))) ≡ half g w p q
-half_at g true p q = refl
-half_at g false p q = refl
 
 half_against : (g : Edge → Crossing) (w : Bool) (p q : Point) → against (half g w p q) ≡ half (λ h. against (g h)) w p q
 half_against g true p q = refl
@@ -83,10 +71,3 @@ module _ {k : Axis} where
 
   pub all_of : {cs : List Crossing} {g : Gather} {r : Crossing} → Gathered k cs g → r ≡ finished g → r ≡ paired k cs
   all_of {cs} i f = f ∙ ap finished i.is ∙ gathered_paired k cs
-
--- ---- a contract's two clauses from its first
-pub sized : {n : ℕ} {r c : Crossing} → r ≡ c → Bnd n (count c) → (r ≡ c) × Bnd n (count r)
-sized e h = (e, rw e h)
-
-pub added_sized : (c : Crossing) (g : Gather) {r : Gather} → r ≡ added c g → (r ≡ added c g) × (nat_abs r.sum ≤ nat_abs (count c) + nat_abs g.sum)
-added_sized c g e = (e, rw e (bnd_add (nat_abs (count c)) (nat_abs g.sum) (S g.by c) g.sum (S_size g.by (nat_abs (count c)) c (le_refl _)) (le_refl _)))

@@ -3,10 +3,8 @@
 use mathlib.Core.Path.{◌≡◌, refl, sym, ap, ◌∙◌}
 use mathlib.Core.Bool.{not}
 use mathlib.Core.List.{List, [], ◌∷◌, ◌++◌, flat_map, Memᴰ}
-use Prim.Native.Nat.{ℕ, ◌+◌, ◌*◌, ◌≤◌, ◌<◌}
-use native.Mathlib.Nat.{add-zero}
+use Prim.Native.Nat.{ℕ, ◌+◌, ◌*◌, ◌≤◌}
 use native.Mathlib.Omega.{arith}
-use borrow.Author.Tests.{lt-ltb, le-ltb}
 use lib.ListN.{length, get_or, take, drop}
 use lib.Seq.{sets, sets-eq, take_at}
 use Rattle.list_words.specs.Lists.{up_to, one_if, onto}
@@ -24,14 +22,6 @@ use Rattle.edges.proofs.Edges.{listed_own}
 use Rattle.layouts.specs.Words.{edge_number, half_numbers, half_list, halves}
 use Rattle.layouts.proofs.Lengths.{length_half_list, length_halves}
 use Rattle.half_edges.specs.Words.{three, threes}
-
--- ---- one half-edge: k is its edge's place, and e is twice the number there
-module _ (numbers l : List ℕ) (at p q k e : ℕ) {l₁ : List ℕ} where
-  pub put_along : p < q → k ≡ place (p, q) → e ≡ 2 * get_or numbers k 0 → l₁ ≡ sets l at (e ∷ p ∷ q ∷ []) → l₁ ≡ sets l at (three numbers (p, q))
-  put_along h i j r = rw (lt-ltb p q h) (r ∙ ap (λ n. sets l at (n ∷ p ∷ q ∷ [])) (j ∙ ap (λ k. 2 * get_or numbers k 0) i ∙ sym (add-zero (2 * get_or numbers (place (p, q)) 0))))
-
-  pub put_against : q ≤ p → k ≡ place (q, p) → e ≡ 2 * get_or numbers k 0 → l₁ ≡ sets l at ((e + 1) ∷ q ∷ p ∷ []) → l₁ ≡ sets l at (three numbers (p, q))
-  put_against h i j r = rw (le-ltb p q h) (r ∙ ap (λ n. sets l at ((n + 1) ∷ q ∷ p ∷ [])) (j ∙ ap (λ k. 2 * get_or numbers k 0) i))
 
 -- ---- one behind the other
 module _ (numbers : List ℕ) where

@@ -24,6 +24,7 @@ pub struct Walk {
 }
 
 // The walk, one record further. "All VX come before all FC", so a vertex behind a facet breaks the layout.
+#[tactic(auto, unfolding(crate::specs::Words::stepped))]
 fn step(found: Record, w: Walk) -> Walk
     requires { (w.vertices ≤ w.used) × (w.facets ≤ w.used) × (w.used + Rc.size found < 2 ^ 64) }
     ensures { result ≡ Hr.stepped found w }
@@ -77,6 +78,7 @@ fn keep_facet(corners: &mut [u32; 768], f: usize, p: u32, q: u32, r: u32)
 }
 
 // What a record says, kept where the walk stands.
+#[tactic(auto, using(crate::proofs::Kept::kept_nothing))]
 fn keep(found: Record, w: Walk, points: &mut [f64; 384], corners: &mut [u32; 768])
     ensures points_after { points.new ≡ Hr.kept 128 w.vertices (Hr.points_of found) points.old }
     ensures corners_after { corners.new ≡ Hr.kept 256 w.facets (Hr.corners_of found) corners.old }

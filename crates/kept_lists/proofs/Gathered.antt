@@ -115,6 +115,14 @@ module _ (inc : List ℤ) (num : List ℕ) (w : Rows) (hs : List ℕ) (z : Sizes
           let d : (i - 256 * row) + 1 ≡ (i + 1) - 256 * row = omega arith in
           gathered_next (rw d at (gathered_one g e q k)) (omega arith) x
 
+      -- where nothing is marked, start and end are all ends
+      pub gathered_two : {r : ℕ} → Next l (256 * row) (256 * row + many) r → r ≡ 256 * row + many → (a b : End)
+          → a ≡ flip (not (against hs h)) (vertex inc num (corner_at hs z h 1)) → b ≡ flip (against hs h) (vertex inc num (corner_at hs z h 2))
+          → pieces (a ∷ b ∷ []) ≡ half inc num w hs z h
+      gathered_two {r} x d a b ea eb =
+          let e : r - 256 * row ≡ many = omega arith in
+          gathered_all (gathered_first (gathered_none 2 (a ∷ b ∷ []) a b refl refl ea eb) x) (e ∙ em)
+
       many_in : line_many z h ≤ 256
       many_in = elim (dec_lt h (3 * z.fa)) [
         | yes a ↦ rw (lt-ltb _ _ a) halves.sized.fb

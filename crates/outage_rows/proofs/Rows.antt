@@ -84,9 +84,9 @@ fine bs e =
     let (b0, (b1, (b2, (b3, (b4, (b5, end4)))))) = any_false too_far _ h.no_4 in
     let (ux, (uy, (uz, end13))) = any_false _ axes h.no_13 in
     record {
-      near = λ w k. elim w [
-        | true ↦ elim k [ X ↦ (near_bound r.x.high a1 b1).1 | Y ↦ (near_bound r.y.high a3 b3).1 | Z ↦ (near_bound r.z.high a5 b5).1 ]
-        | false ↦ elim k [ X ↦ (near_bound r.x.low a0 b0).0 | Y ↦ (near_bound r.y.low a2 b2).0 | Z ↦ (near_bound r.z.low a4 b4).0 ]
+      near = λ w k. elim w as (λ u. Near (coordinate k (end (bounds r) u))) [
+        | true ↦ elim k as (λ j. Near (coordinate j (bounds r).high)) [ X ↦ (near_bound r.x.high a1 b1).1 | Y ↦ (near_bound r.y.high a3 b3).1 | Z ↦ (near_bound r.z.high a5 b5).1 ]
+        | false ↦ elim k as (λ j. Near (coordinate j (bounds r).low)) [ X ↦ (near_bound r.x.low a0 b0).0 | Y ↦ (near_bound r.y.low a2 b2).0 | Z ↦ (near_bound r.z.low a4 b4).0 ]
       ];
       up = λ k. elim k as (λ j. lt (coordinate j (bounds r).low) (coordinate j (bounds r).high) ≡ true) [ X ↦ not_false _ ux | Y ↦ not_false _ uy | Z ↦ not_false _ uz ];
     }

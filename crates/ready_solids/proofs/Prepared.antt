@@ -6,7 +6,7 @@ use Prim.Native.Nat.{ℕ, ◌+◌, ◌*◌, ◌-◌, ◌≤◌}
 use native.Mathlib.Omega.{arith}
 use lib.Ieee.{Float}
 use lib.ListN.{length, take, drop, replicate, length-append, length-replicate, drop_of_length-le}
-use lib.Seq.{take_at, drop_at, length-take-le}
+use lib.Seq.{take_at, drop_at}
 use Rattle.solids.specs.Solids.{Solid, solid, facets, edges}
 use Rattle.solids.specs.declared.Verdict.TheVariants.{Accepted}
 use Rattle.solids.specs.Admission.{admission}
@@ -67,11 +67,3 @@ module _ (x y d : List ℕ) (of_x : length x ≡ 768) (of_y : length y ≡ 768) 
       let h : length d ≤ n = omega (arith, long) in
       drop_at (take 768 old) _ 768 (ap length (take_at x d 768 of_x) ∙ of_x)
       ∙ ap (λ l. y ++ l) (ap (drop n) (drop_at x d 768 of_x) ∙ drop_of_length-le d h) ∙ append-nil y
-
--- the second of them
-pub second_slice : (x d : List ℕ) → length x ≡ 768 → length d ≡ 768 → length (take (length (x ++ d) - 768) (drop 768 (x ++ d))) ≡ 768
-second_slice x d of_x of_d =
-    let n = length (x ++ d) - 768 in
-    let e = drop_at x d 768 of_x in
-    let h : n ≤ length (drop 768 (x ++ d)) = omega (arith, length-append x d, ap length e) in
-    length-take-le n (drop 768 (x ++ d)) h ∙ omega (arith, length-append x d)

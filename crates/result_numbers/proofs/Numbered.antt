@@ -1,15 +1,12 @@
 -- The inclusions of both solids' vertices, one behind the other, are those of the table of both, and the numbers of B's vertices begin behind the crossings.
 use mathlib.Core.Path.{◌≡◌, refl, sym, ap, ◌∙◌, subst}
-use mathlib.Core.List.{List, ◌++◌, flat_map}
-use Prim.Native.Nat.{ℕ, ◌+◌, ◌-◌, ◌<◌, ◌≤◌}
+use mathlib.Core.List.{List, flat_map}
+use Prim.Native.Nat.{ℕ, ◌+◌, ◌-◌, ◌<◌}
 use native.Mathlib.Omega.{arith}
-use native.Mathlib.Decide.{dec_lt}
 use borrow.Author.Tests.{le-ltb}
-use lib.IntN.{ℤ, pos, nat_abs}
-use lib.ListN.{length, get_or, drop, length-append, get_or-append}
-use lib.Seq.{get_or-drop}
+use lib.IntN.{ℤ, pos}
+use lib.ListN.{length, get_or}
 use Rattle.list_words.specs.Lists.{up_to, keep}
-use Rattle.list_words.proofs.Places.{get_or_behind}
 use Rattle.solids.specs.Solids.{Solid, vertices, facets, edges}
 use Rattle.results.specs.declared.Operation.{Operation}
 use Rattle.results.specs.Inclusion.{cI, inclusion}
@@ -95,24 +92,3 @@ module _ (op : Operation) (a b : Solid) where
         of_A = ranked_still (λ j h. still j (omega (arith, va, h))) r;
         of_B = subst (λ v. Follows t inc behind_all v (vertices b) → base + all ≡ rank t behind_all → Ranked t num₂ behind_all v (vertices b) n) va (subst (λ v. Follows t inc behind_all z.va v → base + all ≡ rank t behind_all → Ranked t num₂ behind_all z.va v n) vb (of_b t behind_all)) (follows_B i) begin;
       }
-
--- ---- inclusions in the front of a longer list
-module _ (op : Operation) (a b : Solid) where
-  pub in_front : {x : List ℤ} (l : List ℤ) (n : ℕ) → ((i : ℕ) → nat_abs (get_or l i (pos 0)) ≤ 257) → Included op a b x → Included op a b (x ++ drop n l)
-  in_front {x} l n small i =
-      let here : (j : ℕ) → j < length x → get_or (x ++ drop n l) j (pos 0) ≡ get_or x j (pos 0) = λ j h. get_or-append x (drop n l) (pos 0) j h in
-      record {
-        long = omega (arith, length-append x (drop n l), i.long);
-        of_a = λ j h. here j (omega (arith, i.long)) ∙ i.of_a j h;
-        of_b = λ j h. here (vertices a + j) (omega (arith, i.long)) ∙ i.of_b j h;
-        few = few;
-      }
-    where
-      few : (j : ℕ) → nat_abs (get_or (x ++ drop n l) j (pos 0)) ≤ 257
-      few j = elim (dec_lt j (length x)) [
-        | yes h ↦ rw (get_or-append x (drop n l) (pos 0) j h) (i.few j)
-        | no h ↦
-            let k = j - length x in
-            let e : j ≡ length x + k = omega arith in
-            rw (e, get_or_behind x (drop n l) (length x) k (pos 0) refl, get_or-drop n l k (pos 0)) (small (n + k))
-      ]

@@ -1,10 +1,9 @@
 -- Where all points of a thing lie on one side of a vertex, by x, the two miss: S is the same at each pair of vertices, so that vertex and edge miss,
 -- and so does what is worked out from them.
-use mathlib.Core.Path.{◌≡◌, refl, ap}
-use mathlib.Core.Bool.{Bool, true, false, not}
+use mathlib.Core.Path.{◌≡◌, ap}
+use mathlib.Core.Bool.{Bool, true, false}
 use mathlib.Core.List.{[], ◌∷◌}
 use Rattle.list_words.specs.Lists.{sum_of}
-use Rattle.list_words.proofs.Tests.{never}
 use Rattle.points.specs.declared.Point.{Point}
 use Rattle.points.specs.declared.Axis.{Axis}
 use Rattle.points.specs.declared.Axis.TheVariants.{X, Y}
@@ -20,10 +19,6 @@ side a b = at_least X (record { a = a; b = b })
 
 abbrev edge : Point → Point → Edge
 edge p q = record { start = p; end = q }
-
-pub agree_not : (b : Bool) → not b ≡ true → b ≡ false
-agree_not true e = absurd (never false e refl)
-agree_not false e = refl
 
 -- ---- pairings of misses
 three : (k : Axis) {c d e : Crossing} → c ≡ Miss → d ≡ Miss → e ≡ Miss → paired k (c ∷ d ∷ e ∷ []) ≡ Miss

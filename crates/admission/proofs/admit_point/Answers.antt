@@ -6,17 +6,13 @@ use Rattle.admission.proofs.admit_point.Goals as goal
 
 pub returns-then-bad_point : goal.returns-then-bad_point
 returns-then-bad_point c =
-    let d = c in
-    ap Refused c.on_point.ensures ∙ sym (point_first_3 d.args.v (sym d.bad_point.ensures ∙ d.if-bad_point.true))
+    ap Refused c.on_point.ensures ∙ sym (point_first_3 c.args.v (sym c.bad_point.ensures ∙ c.if-bad_point.true))
 
 pub returns-then-bad_point-2 : goal.returns-then-bad_point-2
 returns-then-bad_point-2 c =
-    let e = c in
-    let d = e in
     ap Refused c.on_point-then-bad_point-2.ensures
-    ∙ sym (point_then_4 d.args.v (sym d.bad_point.ensures ∙ d.if-bad_point.false) (sym e.bad_point-2.ensures ∙ e.if-bad_point-2.true))
+    ∙ sym (point_then_4 c.args.v (sym c.bad_point.ensures ∙ c.if-bad_point.false) (sym c.bad_point-2.ensures ∙ c.if-bad_point-2.true))
 
-pub returns-then-bad_point : goal.returns
-returns-then-bad_point c =
-    let d = c in
-    sym (point_else_accepted d.args.v (sym d.bad_point.ensures ∙ d.if-bad_point.false) (sym c.bad_point-2.ensures ∙ c.if-bad_point-2.false))
+pub returns : goal.returns
+returns c =
+    sym (point_else_accepted c.args.v (sym c.bad_point.ensures ∙ c.if-bad_point.false) (sym c.bad_point-2.ensures ∙ c.if-bad_point-2.false))

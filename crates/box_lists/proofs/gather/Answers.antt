@@ -1,6 +1,5 @@
 -- `gather` meets its contract: the boxes of the first i stand in the one list, and those that are near in the other.
 use mathlib.Core.Path.{◌≡◌, refl, sym, ap, ◌∙◌}
-use mathlib.Core.Logic.{⊎_elim}
 use mathlib.Core.List.{[], ◌∷◌, ◌++◌}
 use Prim.Native.Nat.{ℕ, ◌+◌, ◌*◌, ◌-◌}
 use native.Mathlib.Omega.{arith}
@@ -8,11 +7,11 @@ use native.Mathlib.Numerals.{add-one}
 use lib.ListN.{length, length-set}
 use lib.Seq.{length-sets}
 use Rattle.list_words.specs.Lists.{up_to}
-use Rattle.list_words.proofs.Tests.{not_true, not_false}
 use Rattle.list_words.proofs.UpTo.{length_up_to}
 use Rattle.solids.specs.Solids.{solid}
 use Rattle.bounds.specs.Words.{far, box_of, six}
 use Rattle.bounds.proofs.Listing.{narrowed_none, narrowed_no, narrowed_yes, boxed_next}
+use Rattle.box_lists.proofs.gather.Goals.{then-not-far_at, else-not-far_at}
 use Rattle.box_lists.proofs.gather.Goals as goal
 
 one_more : (n : ℕ) → up_to (n + 1) ≡ up_to n ++ (n ∷ [])
@@ -24,7 +23,26 @@ unfolding up_to
 loop-i-init c = (omega arith, refl, refl, narrowed_none _ _ _ _, λ c h. absurd (omega (arith, h)))
 
 pub bounds-columns-k : goal.bounds-columns-k
-bounds-columns-k c = let h1 = c.loop-i in let h2 = c.requires in let h3 = c.put in let h4 = c.args in ?
+bounds-columns-k c = omega (arith, c.loop-i.invariant.3.fits, length_up_to c.loop-i.i)
 
 pub loop-i-preserved : goal.loop-i-preserved
-loop-i-preserved c = let h1 = c.if-not-far_at in ?
+loop-i-preserved c =
+    let l = c.loop-i in
+    let t = c.loop-i-test.true in
+    let box = box_of c.args.thing (solid c.args.points.now c.args.corners.now) in
+    let own = c.box_of in
+    let p = c.put.ensures in
+    let long = ap length p ∙ length-sets l.boxes (6 * l.i) (six own.result) ∙ l.invariant.2 in
+    let all = boxed_next l.boxes own.result l.i (omega (arith, t, l.invariant.2)) box _ p own.ensures l.invariant.4 in
+    let test = c.far_at.ensures ∙ ap (far c.args.far c.args.b) (all l.i (omega arith)) in
+    let next : up_to (l.i + 1) ≡ up_to l.i ++ (l.i ∷ []) = one_more l.i in
+    elim c.if-not-far_at.branch [
+      | then-not-far_at w ↦ rw (w.columns-is, w.k-is, next) (
+        omega (arith, t),
+        length-set l.columns l.k l.i ∙ l.invariant.1,
+        long,
+        narrowed_yes _ _ _ l.i l.invariant.3 (sym test ∙ w.if-not-far_at.true) (omega (arith, t, l.invariant.3.fits, length_up_to l.i)),
+        all,
+      )
+      | else-not-far_at w ↦ rw (w.columns-is, w.k-is, next) (omega (arith, t), l.invariant.1, long, narrowed_no _ _ _ l.i l.invariant.3 (sym test ∙ w.if-not-far_at.false), all)
+    ]

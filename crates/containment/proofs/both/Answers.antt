@@ -1,5 +1,5 @@
 -- `both` meets its contract: the point's refusal passed on, or else the solid's verdict.
-use mathlib.Core.Path.{◌≡◌, refl, sym, ◌∙◌}
+use mathlib.Core.Path.{◌≡◌, refl, sym}
 use mathlib.Core.List.{[], ◌∷◌}
 use Rattle.solids.specs.declared.Verdict.{Verdict}
 use Rattle.solids.specs.declared.Verdict.TheVariants.{Accepted, Refused}
@@ -14,8 +14,8 @@ last (Refused n) = refl
 
 pub returns-in-Refused : goal.returns-in-Refused
 unfolding in_order
-returns-in-Refused c = rw (sym c.admit_point.ensures ∙ c.n-1.given.1)
+returns-in-Refused c = rw (sym c.in-Refused.ensures)
 
 pub returns-in-Accepted : goal.returns-in-Accepted
 unfolding in_order
-returns-in-Accepted c = rw (sym c.admit_point.ensures ∙ c.enum_told-1.given.1, c.admit.ensures) (last _)
+returns-in-Accepted c = rw (sym c.in-Accepted.ensures, c.admit.ensures) (last _)

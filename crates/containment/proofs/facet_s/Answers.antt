@@ -6,10 +6,12 @@ use Rattle.solids.specs.Words.{facet_S}
 use borrow.Author.Rules.{rules}
 use Rattle.containment.proofs.facet_s.Goals as goal
 
-pub returns-then-as_b : goal.returns-then-as_b
+pub returns-then-as_b-clause-value : goal.returns-then-as_b-clause-value
 unfolding facet_S
-returns-then-as_b c = let h : to_z w32 (of_z w32 c.vf_s.result) ≡ c.vf_s.result = search rules in rw h (c.vf_s.ensures.0 ∙ rw c.if-as_b.true, c.vf_s.ensures.1)
+returns-then-as_b-clause-value c =
+    let h : to_z w32 (of_z w32 c.vf_s.result) ≡ c.vf_s.result = search rules in rw h (c.vf_s.ensures.value ∙ rw c.if-as_b.true)
 
-pub returns-else-as_b : goal.returns-else-as_b
+pub returns-else-as_b-clause-value : goal.returns-else-as_b-clause-value
 unfolding facet_S
-returns-else-as_b c = let h : to_z w32 (of_z w32 c.fv_s.result) ≡ c.fv_s.result = search rules in rw h (c.fv_s.ensures.0 ∙ rw c.if-as_b.false, c.fv_s.ensures.1)
+returns-else-as_b-clause-value c =
+    let h : to_z w32 (of_z w32 c.fv_s.result) ≡ c.fv_s.result = search rules in rw h (c.fv_s.ensures.value ∙ rw c.if-as_b.false)

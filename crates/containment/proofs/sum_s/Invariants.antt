@@ -5,8 +5,6 @@ use Prim.Native.Nat.{ℕ, ◌≤◌, ◌-◌, ◌/◌}
 use lib.ListN.{length}
 use lib.IntN.{ℤ, nat_abs}
 use lib.Ieee.{Float}
-use mir.Syntax.{w32}
-use mir.Val.{to_z}
 use Rattle.list_words.specs.Lists.{sum_of, up_to}
 use Rattle.points.specs.declared.Point.{Point}
 use Rattle.solids.specs.Solids.{solid, facet}
@@ -17,7 +15,7 @@ abbrev pub part : Bool → Point → List Float → List ℕ → ℕ → ℤ
 part as_b v points corners f = facet_S as_b v (facet (solid points corners) f)
 
 abbrev pub invariant-loop-f : goal.invariant-loop-f
-invariant-loop-f l = (l.f ≤ length l.corners / 3) × (to_z w32 l.sum ≡ sum_of (part l.as_b l.v l.points l.corners) (up_to l.f)) × (nat_abs (to_z w32 l.sum) ≤ l.f)
+invariant-loop-f l = (l.f ≤ length l.corners / 3) × (l.sum ≡ sum_of (part l.as_b l.v l.points l.corners) (up_to l.f)) × (nat_abs l.sum ≤ l.f)
 
 abbrev pub decreases-loop-f : goal.decreases-loop-f
 decreases-loop-f l = length l.corners / 3 - l.f

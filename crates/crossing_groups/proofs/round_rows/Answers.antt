@@ -12,14 +12,12 @@ use Rattle.crossing_groups.proofs.round_rows.Goals as goal
 pub loop-r-init : goal.loop-r-init
 unfolding span
 loop-r-init c =
-    let s = c in
-    let b = s.args.search.begin in
+    let b = c.args.search.begin in
     let e : b - b ≡ 0 = omega arith in
-    (omega arith, s.requires.1.0, rw e c.nowhere-all.ensures)
+    (omega arith, c.requires.begin_le_end.0, rw e c.nowhere-all.ensures)
 
 pub loop-r-preserved : goal.loop-r-preserved
 loop-r-preserved c =
-    let s = c in
     let l = c.loop-r in
-    let box : ℕ → Bounds = λ i. round (row_of (solid s.args.ap.now s.args.ac.now) i) in
-    (omega (arith, l.invariant.0), omega (arith, c.loop-r-test.true), c.joined-all.ensures ∙ ap₂ joined l.invariant.2 (c.round.ensures ∙ ap round c.row_at.ensures) ∙ sym (span_next box s.args.search.begin l.r l.invariant.0))
+    let box : ℕ → Bounds = λ i. round (row_of (solid c.args.ap.now c.args.ac.now) i) in
+    (omega (arith, l.invariant.0), omega (arith, c.loop-r-test.true), c.joined-all.ensures ∙ ap₂ joined l.invariant.2 (c.round.ensures ∙ ap round c.row_at.ensures) ∙ sym (span_next box c.args.search.begin l.r l.invariant.0))

@@ -7,16 +7,16 @@ use Rattle.crossing_rows.specs.Words.{count_of}
 use borrow.Author.Rules.{rules}
 use Rattle.crossing_rows.proofs.count_of.Goals as goal
 
-pub returns-in-OfEdge : goal.returns-in-OfEdge
+pub returns-in-OfEdge-clause-value : goal.returns-in-OfEdge-clause-value
 unfolding count_of
-returns-in-OfEdge c =
+returns-in-OfEdge-clause-value c =
     let r = c.ef.result in
     let h : to_z w32 (of_z w32 r) ≡ r = search rules in
-    rw (h, c.row-1.given.1) (c.ef.ensures.0 ∙ ap (λ f. count (ef c.row-1.given.0.0 f)) c.facet.ensures, c.ef.ensures.1)
+    rw (h, c.in-OfEdge.is) (c.ef.ensures.value ∙ ap (λ f. count (ef c.in-OfEdge.e f)) c.facet.ensures)
 
-pub returns-in-OfFacet : goal.returns-in-OfFacet
+pub returns-in-OfFacet-clause-value : goal.returns-in-OfFacet-clause-value
 unfolding count_of
-returns-in-OfFacet c =
+returns-in-OfFacet-clause-value c =
     let r = c.fe.result in
     let h : to_z w32 (of_z w32 r) ≡ r = search rules in
-    rw (h, c.row-in-OfFacet-1.given.1) (c.fe.ensures.0 ∙ ap (λ e. count (fe c.row-in-OfFacet-1.given.0.0 e)) c.edge_at.ensures, c.fe.ensures.1)
+    rw (h, c.in-OfFacet.is) (c.fe.ensures.value ∙ ap (λ e. count (fe c.in-OfFacet.f e)) c.edge_at.ensures)

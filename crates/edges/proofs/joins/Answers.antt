@@ -1,36 +1,40 @@
 -- `joins` meets its contract: the two counts stand in the table.
 use native.Mathlib.Nat.{zero-add}
-use mathlib.Core.Path.{◌≡◌, sym, ap, ◌∙◌}
-use mathlib.Core.List.{List, []}
-use Prim.Native.Nat.{◌+◌, ◌*◌, ◌<◌}
+use mathlib.Core.Path.{◌≡◌, sym, ◌∙◌}
+use mathlib.Core.Bool.{true}
+use mathlib.Core.List.{List}
+use Prim.Native.Nat.{ℕ, ◌+◌, ◌<◌}
 use native.Mathlib.Omega.{arith}
+use lib.Dec.{ltb}
 use lib.ListN.{get_or}
 use borrow.Author.Tests.{lt-ltb, le-ltb}
-use Rattle.solids.specs.Solids.{Half, solid, half_edges, number_of, is_edge}
+use Rattle.solids.specs.Solids.{Half, number_of, is_edge}
+use Rattle.solids.specs.Words.{place, Tallied}
 use Rattle.edges.proofs.joins.Goals as goal
 
-abbrev hs : goal.Start → List Half
-hs s = half_edges (solid [] s.args.corners.now)
-
 -- what stands in the table
-there : (s : goal.Start) → get_or s.args.table.now (128 * s.args.p + s.args.q) 0 ≡ number_of (s.args.p, s.args.q) (hs s)
-there s = s.requires.2.at (s.args.p, s.args.q) s.requires.0 s.requires.1
+found :
+    (table : List ℕ) (hs : List Half) (p q at : ℕ)
+    → p < 128 → q < 128 → Tallied table hs → at ≡ place (p, q) → get_or table at 0 ≡ number_of (p, q) hs
+found table hs p q at a b t e = rw e (t.at (p, q) a b)
 
-back : (s : goal.Start) → get_or s.args.table.now (128 * s.args.q + s.args.p) 0 ≡ number_of (s.args.q, s.args.p) (hs s)
-back s = s.requires.2.at (s.args.q, s.args.p) s.requires.1 s.requires.0
+one_way : (hs : List Half) (p q n : ℕ) → p < q → 0 < n → n ≡ number_of (p, q) hs → true ≡ is_edge hs (p, q)
+unfolding is_edge
+one_way hs p q n l h e =
+    let k : 0 < number_of (p, q) hs + number_of (q, p) hs = omega arith in sym (rw (lt-ltb p q l, lt-ltb 0 _ k))
+
+other_way : (hs : List Half) (p q n m : ℕ) → p < q → n ≡ 0 → n ≡ number_of (p, q) hs → m ≡ number_of (q, p) hs → ltb 0 m ≡ is_edge hs (p, q)
+unfolding is_edge
+other_way hs p q n m l h e f = rw (lt-ltb p q l, sym e ∙ h, zero-add, f)
 
 pub returns-then-table-there-gt0 : goal.returns-then-table-there-gt0
-unfolding is_edge
-returns-then-table-there-gt0 c = let s = c in let h : 0 < number_of (s.args.p, s.args.q) (hs s) + number_of (s.args.q, s.args.p) (hs s) = rw (← there s, ← c.place-there.ensures.0) (omega arith) in sym (rw (lt-ltb s.args.p s.args.q c.if-p-q.true, lt-ltb 0 _ h))
+returns-then-table-there-gt0 c =
+    one_way _ _ _ _ c.if-p-q.true c.if-table-there-gt0.true (found c.args.table.now _ c.args.p c.args.q _ c.requires.0 c.requires.1 c.requires.2 c.place-there.ensures.value)
 
 pub returns-else-table-there-gt0 : goal.returns-else-table-there-gt0
-unfolding is_edge
 returns-else-table-there-gt0 c =
-    let s = c in
-    let z : number_of (s.args.p, s.args.q) (hs s) ≡ 0 =
-    sym (there s) ∙ ap (λ i. get_or s.args.table.now i 0) (sym c.place-there.ensures.0) ∙ (omega arith) in
-    rw
-    (lt-ltb s.args.p s.args.q c.if-p-q.true, z, zero-add, ← back s, ← c.place-back.ensures.0)
+    other_way _ _ _ _ _ c.if-p-q.true (omega (arith, c.if-table-there-gt0.false)) (found c.args.table.now _ c.args.p c.args.q _ c.requires.0 c.requires.1 c.requires.2 c.place-there.ensures.value)
+    (found c.args.table.now _ c.args.q c.args.p _ c.requires.1 c.requires.0 c.requires.2 c.place-back.ensures.value)
 
 pub returns-else-p-q : goal.returns-else-p-q
 unfolding is_edge

@@ -2,57 +2,61 @@
 use mathlib.Core.Path.{◌≡◌, sym, ◌∙◌}
 use mathlib.Core.Bool.{true, false}
 use mathlib.Core.List.{List, [], ◌∷◌, ◌++◌, append-nil}
-use Prim.Native.Nat.{◌+◌, ◌≤◌}
+use Prim.Native.Nat.{ℕ, ◌+◌, ◌<◌, ◌≤◌}
 use native.Mathlib.Omega.{arith}
 use native.Mathlib.Nat.{mul-le-mul_right}
 use Rattle.list_words.proofs.Sums.{All}
 use Rattle.solids.specs.Solids.{Half, solid, half_edges, is_edge}
-use Rattle.edges.specs.Words.{edges_seen}
+use Rattle.edges.specs.Words.{edges_seen, Listed}
 use Rattle.edges.proofs.Edges.{edges_next, edges_few, Earlier, edges_earlier, listed_next}
 use Rattle.edges.proofs.put_edge.Goals as goal
 
-abbrev so_far : goal.Start → List Half
-so_far s = edges_seen s.args.corners.now s.args.n s.args.p s.args.q
+-- what is known when the call begins
+module _ (corners : List ℕ) (n p q : ℕ) (p_low : p < n) (q_low : q < n) (n_low : n ≤ 128) where
+  abbrev so_far : List Half
+  so_far = edges_seen corners n p q
 
-few : (s : goal.Start) → s.args.k ≤ 16384
-few s =
-    let h : s.args.p ≤ 127 = omega (arith, s.requires.0) in
-    omega (arith, s.requires.0, s.requires.1.many, edges_few s.args.corners.now s.args.n s.args.p s.args.q, mul-le-mul_right s.args.n h)
+  few : (ends numbers : List ℕ) (k : ℕ) → Listed so_far ends numbers k → k ≤ 16384
+  few ends numbers k l =
+      let h : p ≤ 127 = omega arith in
+      omega (arith, l.many, edges_few corners n p q, mul-le-mul_right n h)
 
-early : (s : goal.Start) → All (Earlier s.args.p s.args.q) (so_far s)
-early s = edges_earlier s.args.corners.now s.args.n s.args.p s.args.q s.requires.0.2 (omega (arith, s.requires.0))
+  early : All (Earlier p q) so_far
+  early = edges_earlier corners n p q n_low (omega arith)
 
-one_more :
-    (s : goal.Start) → is_edge (half_edges (solid [] s.args.corners.now)) (s.args.p, s.args.q) ≡ true
-    → edges_seen s.args.corners.now s.args.n s.args.p (s.args.q + 1) ≡ so_far s ++ ((s.args.p, s.args.q) ∷ [])
-one_more s e = edges_next s.args.corners.now s.args.n s.args.p s.args.q ∙ rw e
+  one_more : is_edge (half_edges (solid [] corners)) (p, q) ≡ true → edges_seen corners n p (q + 1) ≡ so_far ++ ((p, q) ∷ [])
+  one_more e = edges_next corners n p q ∙ rw e
 
-no_more :
-    (s : goal.Start) → is_edge (half_edges (solid [] s.args.corners.now)) (s.args.p, s.args.q) ≡ false
-    → edges_seen s.args.corners.now s.args.n s.args.p (s.args.q + 1) ≡ so_far s
-no_more s e = edges_next s.args.corners.now s.args.n s.args.p s.args.q ∙ rw e (append-nil (so_far s))
+  no_more : is_edge (half_edges (solid [] corners)) (p, q) ≡ false → edges_seen corners n p (q + 1) ≡ so_far
+  no_more e = edges_next corners n p q ∙ rw e (append-nil so_far)
 
 pub overflow_mul-k : goal.overflow_mul-k
-overflow_mul-k c = omega (arith, few c)
+overflow_mul-k c = let (a, b, m, t) = c.requires.p_lt_n in omega (arith, few c.args.corners.now c.args.n c.args.p c.args.q a b m _ _ c.args.k c.requires.listed)
 
 pub overflow_mul-k-then-joins : goal.overflow_mul-k-then-joins
-overflow_mul-k-then-joins c = omega (arith, few c)
+overflow_mul-k-then-joins c = let (a, b, m, t) = c.requires.p_lt_n in omega (arith, few c.args.corners.now c.args.n c.args.p c.args.q a b m _ _ c.args.k c.requires.listed)
 
 pub overflow_add-k : goal.overflow_add-k
-overflow_add-k c = omega (arith, few c)
+overflow_add-k c = let (a, b, m, t) = c.requires.p_lt_n in omega (arith, few c.args.corners.now c.args.n c.args.p c.args.q a b m _ _ c.args.k c.requires.listed)
 
 pub overflow_cast-numbers : goal.overflow_cast-numbers
-overflow_cast-numbers c = omega (arith, few c)
+overflow_cast-numbers c = let (a, b, m, t) = c.requires.p_lt_n in omega (arith, few c.args.corners.now c.args.n c.args.p c.args.q a b m _ _ c.args.k c.requires.listed)
 
 pub overflow_add-result : goal.overflow_add-result
-overflow_add-result c = omega (arith, few c)
+overflow_add-result c = let (a, b, m, t) = c.requires.p_lt_n in omega (arith, few c.args.corners.now c.args.n c.args.p c.args.q a b m _ _ c.args.k c.requires.listed)
 
 pub returns-then-joins : goal.returns-then-joins
 returns-then-joins c =
-    let s = c in
+    let (a, b, m, t) = c.requires.p_lt_n in
+    let cs = c.args.corners.now in
+    let n = c.args.n in
+    let p = c.args.p in
+    let q = c.args.q in
     rw
-    (one_more s (sym c.joins.ensures ∙ c.if-joins.true), c.store-then-joins.ensures, c.store.ensures, c.place-at.ensures.0)
-    (listed_next (so_far s) s.args.ends-1.now s.args.numbers.now s.args.k s.args.p s.args.q (omega arith) (omega arith) (early s) s.requires.1)
+    (one_more cs n p q a b m (sym c.joins.ensures ∙ c.if-joins.true), c.store-then-joins.ensures, c.store.ensures, c.place-at.ensures.value)
+    (listed_next (edges_seen cs n p q) c.args.ends.now c.args.numbers.now c.args.k p q (omega arith) (omega arith) (early cs n p q a b m) c.requires.listed)
 
 pub returns : goal.returns
-returns c = let s = c in rw (no_more s (sym c.joins.ensures ∙ c.if-joins.false)) s.requires.1
+returns c =
+    let (a, b, m, t) = c.requires.p_lt_n in
+    rw (no_more c.args.corners.now c.args.n c.args.p c.args.q a b m (sym c.joins.ensures ∙ c.if-joins.false)) c.requires.listed

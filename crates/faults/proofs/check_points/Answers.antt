@@ -2,28 +2,24 @@
 use mathlib.Core.Path.{◌≡◌, refl, sym, ap, ◌∙◌}
 use mathlib.Core.Bool.{Bool}
 use mathlib.Core.List.{List, []}
-use Prim.Native.Nat.{ℕ, ◌-◌, ◌/◌}
+use Prim.Native.Nat.{ℕ, ◌/◌}
 use native.Mathlib.Omega.{arith}
 use lib.Ieee.{Float}
 use lib.ListN.{length}
-use Rattle.list_words.specs.Lists.{up_to}
-use Rattle.solids.specs.declared.Verdict.{Verdict}
+use Rattle.list_words.specs.Lists.{up_to, any}
+use Rattle.points.specs.declared.Point.{Point}
+use Rattle.points.specs.Points.{coordinates}
 use Rattle.solids.specs.Refusals.{on_solid, given, in_order}
 use Rattle.solids.specs.Solids.{solid, vertex}
-use Rattle.solids.specs.Words.{bad_number, check_vertex}
+use Rattle.solids.specs.Words.{bad, bad_number}
 use Rattle.solids.proofs.Checks.{each_next, each_at}
+use Rattle.faults.proofs.check_points.Invariants.{check}
 use Rattle.faults.proofs.check_points.Goals as goal
 
-abbrev check : Bool → List Float → ℕ → Verdict
-check blanks points = check_vertex blanks (solid points [])
-
 -- what the code sees of vertex i
-seen : (c : goal.After-bad-point invariant-loop decreases-loop) → let l = c in let a = l.args in
-    check a.blanks a.points.now l.loop-i.i ≡ given (on_solid (bad_number a.blanks) l.loop-i.i) c.bad_point.result
-seen c =
-    let l = c in
-    let a = l.args in
-    ap (given (on_solid (bad_number a.blanks) l.loop-i.i)) (sym (rw c.vertex.ensures at c.bad_point.ensures))
+seen : (blanks : Bool) (points : List Float) (i : ℕ) (v : Point) (b : Bool) → v ≡ vertex (solid points []) i → b ≡ any (bad blanks) (coordinates v)
+    → check blanks points i ≡ given (on_solid (bad_number blanks) i) b
+seen blanks points i v b e h = ap (given (on_solid (bad_number blanks) i)) (sym (rw e at h))
 
 pub loop-i-init : goal.loop-i-init
 unfolding in_order up_to
@@ -31,13 +27,14 @@ loop-i-init c = (omega arith, refl)
 
 pub returns-then-bad_point : goal.returns-then-bad_point
 returns-then-bad_point c =
-    let l = c in
-    let a = l.args in
-    sym (each_at (check a.blanks a.points.now) (length a.points.now / 3) l.loop-i.i _ c.loop-i-test.true
-    l.loop-i.invariant.1 (seen c ∙ rw (c.if-bad_point.true, c.on_solid.ensures, c.bad_number.ensures)))
+    let a = c.args in
+    sym (each_at (check a.blanks a.points.now) (length a.points.now / 3) c.loop-i.i _ c.loop-i-test.true c.loop-i.invariant.1
+    (seen a.blanks a.points.now c.loop-i.i _ _ c.vertex.ensures c.bad_point.ensures ∙ rw (c.if-bad_point.true, c.on_solid.ensures, c.bad_number.ensures)))
 
 pub loop-i-preserved : goal.loop-i-preserved
 loop-i-preserved c =
-    let l = c in
-    let a = l.args in
-    (omega arith, each_next (check a.blanks a.points.now) l.loop-i.i l.loop-i.invariant.1 (seen c ∙ rw c.if-bad_point.false))
+    let a = c.args in (
+      omega arith,
+      each_next (check a.blanks a.points.now) c.loop-i.i c.loop-i.invariant.1
+          (seen a.blanks a.points.now c.loop-i.i _ _ c.vertex.ensures c.bad_point.ensures ∙ rw c.if-bad_point.false),
+    )

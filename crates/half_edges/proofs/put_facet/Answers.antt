@@ -11,4 +11,4 @@ returns c =
     let p = get_or a.corners.now (3 * a.f) 0 in
     let q = get_or a.corners.now (3 * a.f + 1) 0 in
     let r = get_or a.corners.now (3 * a.f + 2) 0 in
-    rw (add-zero (3 * a.f)) (put_three a.numbers.now a.list-1.now a.at (p, q) (q, r) (r, p) c.put_half.ensures c.put_half-2.ensures c.put_half-3.ensures)
+    rw (add-zero (3 * a.f)) (put_three a.numbers.now a.list.now a.at (p, q) (q, r) (r, p) c.put_half.ensures c.put_half-2.ensures c.put_half-3.ensures)

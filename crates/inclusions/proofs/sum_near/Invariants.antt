@@ -5,8 +5,6 @@ use Prim.Native.Nat.{ℕ, ◌≤◌, ◌-◌}
 use lib.ListN.{length, take}
 use lib.IntN.{ℤ, nat_abs}
 use lib.Ieee.{Float}
-use mir.Syntax.{w32}
-use mir.Val.{to_z}
 use Rattle.list_words.specs.Lists.{sum_of}
 use Rattle.points.specs.declared.Point.{Point}
 use Rattle.solids.specs.Solids.{solid, facet}
@@ -17,7 +15,7 @@ abbrev pub part : Bool → Point → List Float → List ℕ → ℕ → ℤ
 part as_b v points corners f = facet_S as_b v (facet (solid points corners) f)
 
 abbrev pub invariant-loop-i : goal.invariant-loop-i
-invariant-loop-i l = (l.i ≤ length l.columns) × (to_z w32 l.sum ≡ sum_of (part l.as_b l.v l.points l.corners) (take l.i l.columns)) × (nat_abs (to_z w32 l.sum) ≤ l.i)
+invariant-loop-i l = (l.i ≤ length l.columns) × (l.sum ≡ sum_of (part l.as_b l.v l.points l.corners) (take l.i l.columns)) × (nat_abs l.sum ≤ l.i)
 
 abbrev pub decreases-loop-i : goal.decreases-loop-i
 decreases-loop-i l = length l.columns - l.i

@@ -1,52 +1,59 @@
 -- `both` meets its contract: A, then B behind it.
 use mathlib.Core.Path.{◌≡◌, sym, ap, ◌∙◌, subst}
+use mathlib.Core.List.{List}
+use Prim.Native.Nat.{ℕ}
 use native.Mathlib.Omega.{arith}
-use Rattle.solids.specs.Solids.{solid}
 use lib.ListN.{length, drop, length-drop}
 use lib.Seq.{length-sets, length-take-le}
+use Rattle.solids.specs.Solids.{lent}
 use Rattle.edges.specs.Words.{Ready}
 use Rattle.layouts.specs.Words.{half_list}
 use Rattle.half_edges.proofs.Fill.{front_halves}
-use Rattle.ready_solids.proofs.Prepared.{few_halves, first_part, second_slice, second_part}
+use Rattle.ready_solids.proofs.Prepared.{few_halves, first_part, second_part}
 use Rattle.ready_solids.proofs.both.Goals as goal
 
 -- B's part of the list
-rest : (s : goal.Start) → length (drop 768 s.args.ends-1.now) ≡ 768
-rest s = length-drop 768 s.args.ends-1.now ∙ omega (arith, s.requires.1.0)
+rest : (ends : List ℕ) → length ends ≡ 1536 → length (drop 768 ends) ≡ 768
+rest ends h = length-drop 768 ends ∙ omega (arith, h)
 
 pub slice_bounds-ready-end-2 : goal.slice_bounds-ready-end-2
-slice_bounds-ready-end-2 c = sym (length-take-le 768 c.args.ends-1.now (omega (arith, c.requires.1.0)))
+slice_bounds-ready-end-2 c = sym (length-take-le 768 c.args.ends.now (omega (arith, c.requires.ends_len.0)))
 
-pub ready-ea-requires : goal.ready-ea-requires
-ready-ea-requires c =
-    let s = c in
-    let a = solid s.args.ap.now s.args.ac.now in
-    let b = solid s.args.bp.now s.args.bc.now in
-    (s.requires.0.0, (length-take-le 768 s.args.ends-1.now (omega (arith, s.requires.1.0)), omega (arith, few_halves a b s.requires.0.0 s.requires.0.1, s.requires.1.1)))
+pub ready-ea-requires-clause-ends_len : goal.ready-ea-requires-clause-ends_len
+ready-ea-requires-clause-ends_len c = length-take-le 768 c.args.ends.now (omega (arith, c.requires.ends_len.0))
 
-pub ready-eb-requires : goal.ready-eb-requires
-ready-eb-requires c =
-    let s = c in
-    let a = solid s.args.ap.now s.args.ac.now in
-    let b = solid s.args.bp.now s.args.bc.now in
-    let x = c.ready-ea in
-    let d = drop 768 s.args.ends-1.now in
-    let e = ap length x.ensures.1.0 ∙ length-sets s.args.halves-1.now 0 (half_list a) in
-    (s.requires.0.1, (second_slice x.new.1.1.0 d x.ensures.0.room (rest s), omega (arith, e, few_halves a b s.requires.0.0 s.requires.0.1, s.requires.1.1)))
+pub ready-ea-requires-clause-corners_in_bounds : goal.ready-ea-requires-clause-corners_in_bounds
+ready-ea-requires-clause-corners_in_bounds c =
+    let (ok_a, ok_b) = c.requires.ac_value in
+    omega (arith, few_halves (lent c.args.ap c.args.ac) (lent c.args.bp c.args.bc) ok_a ok_b, c.requires.ends_len.1)
 
-pub returns : goal.returns
-returns c =
-    let s = c in
-    let a = solid s.args.ap.now s.args.ac.now in
-    let b = solid s.args.bp.now s.args.bc.now in
+pub ready-eb-requires-clause-corners_in_bounds : goal.ready-eb-requires-clause-corners_in_bounds
+ready-eb-requires-clause-corners_in_bounds c =
+    let (ok_a, ok_b) = c.requires.ac_value in
+    let a = lent c.args.ap c.args.ac in
+    let e = ap length c.ready-ea.ensures.halves ∙ length-sets c.args.halves.now 0 (half_list a) in
+    omega (arith, e, few_halves a (lent c.args.bp c.args.bc) ok_a ok_b, c.requires.ends_len.1)
+
+pub returns-clause-ready_a : goal.returns-clause-ready_a
+returns-clause-ready_a c =
     let x = c.ready-ea in
     let y = c.ready-eb in
-    let d = drop 768 s.args.ends-1.now in
-    let there = x.new.1.1.0 in
-    let behind = y.new.1.1.0 in (
-      subst (Ready s.args.ap.now s.args.ac.now) (sym (first_part there behind d x.ensures.0.room y.ensures.0.room (rest s))) x.ensures.0,
-      (
-        subst (Ready s.args.bp.now s.args.bc.now) (sym (second_part there behind d x.ensures.0.room y.ensures.0.room (rest s))) y.ensures.0,
-        (c.sizes.ensures, rw c.sizes.ensures (front_halves a b s.args.halves-1.now (omega (arith, few_halves a b s.requires.0.0 s.requires.0.1, s.requires.1.1)) x.ensures.1.0 y.ensures.1.0)),
-      ),
-    )
+    let ends = c.args.ends.now in
+    subst (Ready c.args.ap.now c.args.ac.now)
+    (sym (first_part x.new.ends y.new.ends (drop 768 ends) x.ensures.ready.room y.ensures.ready.room (rest ends c.requires.ends_len.0))) x.ensures.ready
+
+pub returns-clause-ready_b : goal.returns-clause-ready_b
+returns-clause-ready_b c =
+    let x = c.ready-ea in
+    let y = c.ready-eb in
+    let ends = c.args.ends.now in
+    subst (Ready c.args.bp.now c.args.bc.now)
+    (sym (second_part x.new.ends y.new.ends (drop 768 ends) x.ensures.ready.room y.ensures.ready.room (rest ends c.requires.ends_len.0))) y.ensures.ready
+
+pub returns-clause-front : goal.returns-clause-front
+returns-clause-front c =
+    let (ok_a, ok_b) = c.requires.ac_value in
+    let a = lent c.args.ap c.args.ac in
+    let b = lent c.args.bp c.args.bc in
+    rw c.sizes.ensures
+    (front_halves a b c.args.halves.now (omega (arith, few_halves a b ok_a ok_b, c.requires.ends_len.1)) c.ready-ea.ensures.halves c.ready-eb.ensures.halves)

@@ -6,4 +6,4 @@ use Rattle.numbers.proofs.in_bytes.float_at.Goals as goal
 
 pub returns : goal.returns
 unfolding float_at
-returns c = c.float.ensures ∙ ap (of_bits binary64) c.number_at.ensures.0
+returns c = c.float.ensures ∙ ap (of_bits binary64) c.number_at.ensures.value

@@ -1,6 +1,6 @@
 use mathlib.Core.Path.{◌≡◌}
 use Prim.Native.Nat.{◌+◌, ◌-◌, ◌^◌, ◌<◌, ◌≤◌}
-use Rattle.numbers.specs.Numbers.{number, number_at}
+use Rattle.numbers.specs.Numbers.{number_at}
 use Rattle.numbers.proofs.in_bytes.number_at.Given as goal
 
 abbrev pub invariant-loop-i : goal.invariant-loop-i

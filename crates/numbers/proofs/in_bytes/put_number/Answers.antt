@@ -1,6 +1,5 @@
 -- `put_number` meets its contract: the bytes below i are put, and the rest's bytes are left.
 use mathlib.Core.Path.{sym, ◌∙◌}
-use Prim.Native.Nat.{◌-◌}
 use native.Mathlib.Omega.{arith}
 use lib.ListN.{length-set}
 use Rattle.numbers.proofs.Numbers.{left_to_put, all_put}

@@ -1,5 +1,0 @@
--- `placed` meets its contract.
-use Rattle.crossing_counts.proofs.placed.Goals as goal
-
-pub returns-clause-value : goal.returns-clause-value
-returns-clause-value c = ?
