@@ -20,7 +20,7 @@ use Rattle.crossing_rows.specs.declared.Row.{Row}
 use Rattle.crossing_rows.specs.declared.Row.TheVariants.{OfEdge, OfFacet}
 use Rattle.crossing_rows.specs.Words.{row_of}
 use Rattle.crossing_points.specs.Words.{key_at, stretch, of_row, of_rows, width, point_on}
-use Rattle.list_stores.proofs.Runs.{Run, run_none, run_long, run_room, run_next, run_all}
+use Rattle.list_stores.proofs.Runs.{Run, run_none, run_room, run_next, run_all}
 
 module _ (a b : Solid) where
   -- ---- a row by itself
@@ -73,9 +73,6 @@ module _ (a b : Solid) where
     rowed_none old start = record { within = omega arith; run = run_none (of_row a b first crossed) old start }
 
 module _ {a b : Solid} {first crossed : List ℕ} {old new : List Float} {start at r : ℕ} (g : Rowed a b first crossed old new start at r) where
-  pub rowed_long : length new ≡ length old
-  rowed_long = run_long g.run
-
   module _ {row : Row} (h : r < length (edges a) + facets a) (q : row ≡ row_of a r) where
     pub rowed_room : start + length (of_rows a b first crossed) ≤ length old → at + length (alone a b first crossed row r) ≤ length new
     unfolding of_rows

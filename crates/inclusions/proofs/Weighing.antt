@@ -15,9 +15,6 @@ use Rattle.inclusions.specs.declared.Side.{Side}
 use Rattle.inclusions.specs.Words.{Included, weight, Weighed}
 
 module _ (q : Side) (own : List Float) (other : Solid) where
-  pub weighed_none : (l : List ℤ) → Weighed q own other l l 0
-  weighed_none l = record { before = λ i h. refl; there = λ i h. absurd (omega (arith, h)); few = λ i h. absurd (omega (arith, h)) }
-
   pub weighed_next : (old new : List ℤ) (i : ℕ) (v : ℤ) → q.at + i < length new → v ≡ weight q own other i → nat_abs v ≤ 257 → Weighed q own other old new i
       → Weighed q own other old (set new (q.at + i) v) (i + 1)
   weighed_next old new i v r e small w =

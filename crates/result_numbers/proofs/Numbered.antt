@@ -14,7 +14,7 @@ use Rattle.fans.specs.Words.{rank, Follows, Ranked}
 use Rattle.layouts.specs.declared.Sizes.{Sizes}
 use Rattle.layouts.specs.Words.{sizes}
 use Rattle.vertex_table.specs.Words as T
-use Rattle.vertex_table.specs.Words.{inclusions, numbers, filled}
+use Rattle.vertex_table.specs.Words.{inclusions, filled}
 use Rattle.vertex_table.proofs.Keys.{length_keys, key_vA, key_vB}
 use Rattle.vertex_table.proofs.Good.{slot, long_inclusions}
 use Rattle.kept_lists.specs.Words as K

@@ -1,11 +1,10 @@
 -- What the lists of crossings and the vertices' lists say of both solids: that they are what the walks ask, and give the table's triangles.
-use mathlib.Core.Path.{◌≡◌, sym, ap, ◌∙◌, subst}
+use mathlib.Core.Path.{◌≡◌, sym, ap, ◌∙◌}
 use mathlib.Core.List.{List}
-use Prim.Native.Nat.{ℕ, ◌+◌, ◌*◌, ◌<◌, ◌≤◌}
+use Prim.Native.Nat.{ℕ, ◌+◌, ◌<◌, ◌≤◌}
 use native.Mathlib.Omega.{arith}
-use lib.Ieee.{Float}
 use lib.IntN.{ℤ}
-use lib.ListN.{length, take, drop, length-take, length-drop}
+use lib.ListN.{length}
 use Rattle.solids.specs.Solids.{Solid, vertices}
 use Rattle.solids.specs.declared.Verdict.TheVariants.{Accepted}
 use Rattle.solids.specs.Admission.{admission}
@@ -13,10 +12,9 @@ use Rattle.solids.proofs.Admitted.{passed}
 use Rattle.results.specs.declared.Operation.{Operation}
 use Rattle.results.specs.Inclusion.{cI}
 use Rattle.results.specs.Triangles.{Triangle}
-use Rattle.edges.specs.Words as Ed
 use Rattle.layouts.specs.declared.Sizes.{Sizes}
-use Rattle.layouts.specs.Words.{sizes, Sized, halves, Listing, Columns}
-use Rattle.layouts.proofs.Lengths.{length_halves, sized}
+use Rattle.layouts.specs.Words.{sizes, Sized, halves, Columns}
+use Rattle.layouts.proofs.Lengths.{sized}
 use Rattle.fans.specs.Words.{rank}
 use Rattle.vertex_table.specs.Words as T
 use Rattle.vertex_table.specs.Words.{inclusions, filled}
@@ -24,29 +22,13 @@ use Rattle.vertex_table.proofs.Good.{good, read_triangles}
 use Rattle.kept_lists.specs.Words as K
 use Rattle.kept_lists.proofs.Found.{listing_columns}
 use Rattle.kept_lists.proofs.Use.{walked_triangles, walked_balanced}
-use Rattle.crossing_rows.specs.declared.Listed.TheVariants.{Found}
-use Rattle.crossing_rows.specs.Words.{row, rows, Answered}
-use Rattle.inclusions.specs.Words.{Included}
+use Rattle.crossing_rows.specs.Words.{rows}
 use Rattle.crossing_rows.proofs.Room.{enough}
 use Rattle.result_numbers.specs.Words.{Numbered}
 use Rattle.result_numbers.proofs.Listed.{listed}
 use Rattle.result_numbers.proofs.Numbered.{follows_A, follows_B}
-use Rattle.result_sizes.specs.Words.{Lists, Ends}
+use Rattle.result_sizes.specs.Words.{Lists}
 use Rattle.result_sizes.proofs.Vertices.{own_A, own_B}
-
--- the list of half-edges is as long as its front
-pub nine_there : (a b : Solid) (z : Sizes) (l : List ℕ) → z ≡ sizes a b → take (9 * (z.fa + z.fb)) l ≡ halves a b → 9 * (z.fa + z.fb) ≤ length l
-nine_there a b z l of_z_list front =
-    omega (arith, length-take (9 * (z.fa + z.fb)) l, ap length front, length_halves a b, ap (λ (z : Sizes). z.fa) of_z_list, ap (λ (z : Sizes). z.fb) of_z_list)
-
-pub ends_there : {ap : List Float} {ac : List ℕ} {bp : List Float} {bc : List ℕ} (ends : List ℕ) → Ed.Ready ap ac (take 768 ends) → Ed.Ready bp bc (drop 768 ends) → Ends ap ac bp bc ends
-ends_there ends of_a of_b = (of_a, of_b, omega (arith, length-drop 768 ends, of_b.room))
-
--- what is found with the operation's sign is the operation's
-pub gathered : (op : Operation) (a b : Solid) {s : ℤ} {z : Sizes} {total : ℕ} {hs : List ℕ} {inc : List ℤ} {first crossed : List ℕ}
-    → s ≡ cI op → z ≡ sizes a b → hs ≡ halves a b → Included op a b inc → Answered s a b first crossed (Found total) → Lists op a b z total hs inc first crossed
-gathered op a b {first = first} {crossed = crossed} of_s of_z_list of_hs i f =
-    record { of_z_list = of_z_list; of_hs = of_hs; included = i; size = rw of_s at f.0; listing = subst (λ (s : ℤ). Listing (row s a b) (rows a b) first crossed) of_s f.1 }
 
 module _ (op : Operation) (a b : Solid) (ok_a : admission a ≡ Accepted) (ok_b : admission b ≡ Accepted) {z : Sizes} {total : ℕ} {hs : List ℕ} {inc : List ℤ} {first crossed : List ℕ} (l : Lists op a b z total hs inc first crossed) where
   -- how many there can be

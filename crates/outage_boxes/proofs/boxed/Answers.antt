@@ -14,10 +14,8 @@ returns-then-no_row c = rw (c.refused.ensures, ← c.no_row.ensures, c.if-no_row
 pub decode-requires : goal.decode-requires
 decode-requires c = whole _ (sym c.no_row.ensures ∙ c.if-no_row.false)
 
-pub returns-then-no_row : goal.returns
+pub returns : goal.returns
 unfolding boxed check_row check_bounds in_order
-returns-then-no_row c =
-    let m = c in
-    let d = m in
-    let a = d.args in
-    rw (← d.no_row.ensures, d.if-no_row.false) (m.make.ensures ∙ ap (λ r. made r a.points-1.now a.corners-1.now) d.decode.ensures)
+returns c =
+    let a = c.args in
+    rw (← c.no_row.ensures, c.if-no_row.false) (c.make.ensures ∙ ap (λ r. made r a.points.now a.corners.now) c.decode.ensures)

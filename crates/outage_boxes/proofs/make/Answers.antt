@@ -21,30 +21,22 @@ checked r ps cs v short = boxing (in_order (v ∷ given (answer_of 8) short ∷ 
 pub returns-in-Refused : goal.returns-in-Refused
 unfolding in_order
 returns-in-Refused c =
-    let k = c in
-    let a = k.args in
-    let ps = a.points-1.now in
-    let cs = a.corners-1.now in
+    let a = c.args in
+    let ps = a.points.now in
+    let cs = a.corners.now in
     rw c.refused.ensures
-    (sym (ap (λ v. checked a.r ps cs v (too_short ps cs (box (bounds a.r)))) (sym k.check-said.ensures ∙ c.said-1.given.1)))
+    (sym (ap (λ v. checked a.r ps cs v (too_short ps cs (box (bounds a.r)))) (sym c.check-said.ensures ∙ c.in-Refused.is)))
 
 pub returns-then-points-corners : goal.returns-then-points-corners
 unfolding in_order too_short the_rule
 returns-then-points-corners c =
-    let t = c in
-    let k = t in
-    let a = k.args in
+    let a = c.args in
     rw c.refused-then-points-corners.ensures
-    (sym (ap₂ (checked a.r a.points-1.now a.corners-1.now) (sym k.check-said.ensures ∙ t.enum_told-1.given.1) c.if-points-corners.true))
+    (sym (ap₂ (checked a.r a.points.now a.corners.now) (sym c.check-said.ensures ∙ c.in_default.is) c.if-points-corners.true))
 
-pub returns-in-Refused : goal.returns
+pub returns : goal.returns
 unfolding in_order too_short the_rule
-returns-in-Refused c =
-    let f = c in
-    let p = f in
-    let e = p in
-    let t = e in
-    let k = t in
-    let a = k.args in
-    rw (f.put_facets.ensures, p.put_points.ensures, p.bounds-b.ensures)
-    (sym (ap₂ (checked a.r a.points-1.now a.corners-1.now) (sym k.check-said.ensures ∙ t.enum_told-1.given.1) e.if-points-corners.false))
+returns c =
+    let a = c.args in
+    rw (c.put_facets.ensures, c.put_points.ensures, c.bounds-b.ensures)
+    (sym (ap₂ (checked a.r a.points.now a.corners.now) (sym c.check-said.ensures ∙ c.in_default.is) c.if-points-corners.false))

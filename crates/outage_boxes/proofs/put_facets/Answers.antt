@@ -17,19 +17,12 @@ facets_of i = cut (get_or faces i (X, 0))
 pub returns : goal.returns
 unfolding the_rule
 returns c =
-    let p6 = c in
-    let p5 = p6 in
-    let p4 = p5 in
-    let p3 = p4 in
-    let p2 = p3 in
-    let p1 = p2 in
-    let s = p1 in
-    let old = s.args.corners-1.now in
+    let old = c.args.corners.now in
     let r0 = run_none facets_of old 0 in
-    let r1 = run_next r0 p1.put_face.ensures refl in
-    let r2 = run_next r1 p2.put_face-2.ensures refl in
-    let r3 = run_next r2 p3.put_face-3.ensures refl in
-    let r4 = run_next r3 p4.put_face-4.ensures refl in
-    let r5 = run_next r4 p5.put_face-5.ensures refl in
-    let r6 = run_next r5 p6.put_face-6.ensures refl in
-    (run_all r6 refl).0 ∙ sets_onto old (flat_map cut faces) s.requires
+    let r1 = run_next r0 c.put_face.ensures refl in
+    let r2 = run_next r1 c.put_face-2.ensures refl in
+    let r3 = run_next r2 c.put_face-3.ensures refl in
+    let r4 = run_next r3 c.put_face-4.ensures refl in
+    let r5 = run_next r4 c.put_face-5.ensures refl in
+    let r6 = run_next r5 c.put_face-6.ensures refl in
+    (run_all r6 refl).0 ∙ sets_onto old (flat_map cut faces) c.requires

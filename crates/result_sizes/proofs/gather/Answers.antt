@@ -1,7 +1,21 @@
 -- `gather` meets its contract: each list holds what its callee says of it.
+use mathlib.Core.Path.{◌≡◌}
+use mathlib.Core.List.{flat_map}
+use Prim.Native.Nat.{ℕ, ◌<◌, ◌≤◌}
 use native.Mathlib.Omega.{arith}
+use lib.IntN.{ℤ}
+use lib.ListN.{length}
+use Rattle.list_words.specs.Lists.{up_to}
+use Rattle.solids.specs.Solids.{Solid}
+use Rattle.solids.specs.declared.Verdict.TheVariants.{Accepted}
+use Rattle.solids.specs.Admission.{admission}
+use Rattle.crossing_rows.specs.Words.{row, rows}
 use Rattle.crossing_rows.proofs.Room.{enough}
 use Rattle.result_sizes.proofs.gather.Goals as goal
 
+-- a list of crossings that is too short for them has not room for 196,608
+no_room : (s : ℤ) (a b : Solid) {n : ℕ} → admission a ≡ Accepted → admission b ≡ Accepted → n < length (flat_map (row s a b) (up_to (rows a b))) → 196608 ≤ n → ⊥
+no_room s a b ok_a ok_b short h = omega (arith, short, h, enough s a b ok_a ok_b)
+
 pub returns-in_default-clause-told : goal.returns-in_default-clause-told
-returns-in_default-clause-told c = λ h. omega (arith, c.in_default.ensures.answered, enough _ _ _ c.requires.0 c.requires.1)
+returns-in_default-clause-told c = no_room _ _ _ c.requires.0 c.requires.1 c.in_default.ensures.answered

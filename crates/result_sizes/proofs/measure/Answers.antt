@@ -24,8 +24,7 @@ pub count_triangles-triangles-requires : goal.count_triangles-triangles-requires
 count_triangles-triangles-requires c =
     let g = c.requires.0 in
     let v = c.number-n in
-    let n = v.ensures.numbered g.op g.a g.b g.lists.of_z_list g.lists.included g.lists.size in
-    (
+    let n = v.ensures.numbered g.op g.a g.b g.lists.of_z_list g.lists.included g.lists.size in (
       ready g.op g.a g.b g.ok_a g.ok_b g.lists n (omega arith) (omega arith) (omega (arith, v.ensures.few.0, c.requires.1)),
       c.fill.ensures v.result.base,
       balanced g.op g.a g.b g.ok_a g.ok_b g.lists n,

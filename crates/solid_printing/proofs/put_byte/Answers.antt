@@ -3,4 +3,4 @@ use Rattle.solid_printing.proofs.Texts.{one_more}
 use Rattle.solid_printing.proofs.put_byte.Goals as goal
 
 pub returns : goal.returns
-returns c = one_more c.args.t1 c.args.byte c.requires
+returns c = one_more c.args.t c.args.byte c.requires

@@ -1,0 +1,9 @@
+use lib.ListN.{length}
+use Prim.Native.Nat.{◌≤◌, ◌-◌, ◌/◌}
+use Rattle.case_lines.proofs.triangles.Given as goal
+
+abbrev pub invariant-loop-i : goal.invariant-loop-i
+invariant-loop-i l = (l.end ≤ 65536) × (l.i ≤ l.most) × (l.most ≤ length l.list / 3) × (l.most ≤ length l.origins)
+
+abbrev pub decreases-loop-i : goal.decreases-loop-i
+decreases-loop-i l = l.most - l.i
