@@ -7,8 +7,8 @@ use native.Mathlib.Decide.{dec_lt}
 use native.Mathlib.Numerals.{add-one}
 use native.Mathlib.Omega.{arith}
 use lib.IntN.{ℤ, pos, nat_abs, ◌*ℤ◌, *ℤ-zero}
-use lib.ListN.{length, get_or, take, drop, set, length-append, length-set, length-drop, take-append-drop}
-use lib.Seq.{take_all, take-suc, take-suc-set, get_or-set_same, get_or-set_other}
+use lib.ListN.{length, get_or, take, drop, set, length-append, length-set, take-append-drop}
+use lib.Seq.{take-suc, take-suc-set, get_or-set_same, get_or-set_other}
 use Rattle.list_words.specs.Lists.{up_to, keep, nonzero}
 use Rattle.list_words.proofs.Sums.{All}
 use Rattle.list_words.proofs.UpTo.{flat_up_to_suc}

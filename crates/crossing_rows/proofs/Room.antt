@@ -7,7 +7,7 @@ use native.Mathlib.Omega.{arith}
 use borrow.Author.Tests.{lt-ltb, le-ltb}
 use lib.IntN.{ℤ, ◌*ℤ◌}
 use lib.ListN.{length, length-append, length-map}
-use Rattle.list_words.specs.Lists.{up_to, keep, nonzero}
+use Rattle.list_words.specs.Lists.{up_to, nonzero}
 use Rattle.list_words.proofs.UpTo.{length_up_to, flat_up_to_suc}
 use Rattle.list_words.proofs.Places.{flat_up_to_add}
 use Rattle.solids.specs.Solids.{Solid, facets, edges}

@@ -3,7 +3,7 @@ use Prim.Native.Nat.{ℕ, ◌-◌, ◌<◌, ◌≤◌}
 use lib.ListN.{length}
 use Rattle.list_words.specs.Lists.{up_to}
 use Rattle.solids.specs.Solids.{solid}
-use Rattle.bounds.specs.Words.{far, box_of, box_at, Narrowed}
+use Rattle.bounds.specs.Words.{box_of, box_at, Narrowed}
 use Rattle.box_lists.proofs.gather.Given as goal
 
 abbrev pub invariant-loop-i : goal.invariant-loop-i

@@ -1,6 +1,5 @@
 -- `narrow` meets its contract: of the columns before `at`, those that are near stand in the list.
 use mathlib.Core.Path.{refl, sym, ap, ◌∙◌}
-use Prim.Native.Nat.{◌-◌}
 use native.Mathlib.Omega.{arith}
 use native.Mathlib.Numerals.{add-one}
 use lib.ListN.{get_or, take, length-set}

@@ -7,21 +7,18 @@ use Rattle.bounds.specs.Words.{Present}
 use Rattle.crossing_rows.specs.declared.Row.{Row}
 use Rattle.crossing_rows.specs.Words.{Lying}
 use mathlib.Core.List.{List, [], ◌∷◌}
-use Prim.Native.Nat.{ℕ, ◌+◌, ◌-◌, ◌<◌}
+use Prim.Native.Nat.{ℕ, ◌+◌, ◌<◌}
 use native.Mathlib.Omega.{arith}
 use lib.IntN.{ℤ, pos}
 use lib.ListN.{length, get_or, take, length-append}
-use mir.Syntax.{w32}
-use mir.Val.{to_z, of_z}
 use Rattle.list_words.specs.Lists.{keep}
 use Rattle.list_words.proofs.Widths.{back_32}
-use Rattle.list_words.proofs.Tests.{not_false}
 use Rattle.solids.specs.Solids.{Solid, solid}
 use Rattle.solids.proofs.Admitted.{passed}
 use Rattle.bounds.specs.declared.Far.TheVariants.{Apart}
 use Rattle.bounds.specs.Words.{apart, far, box_of}
 use Rattle.bounds.proofs.Things.{lies_box}
-use Rattle.crossing_rows.specs.Words.{round, across, count_of, crossing, Behind, Added}
+use Rattle.crossing_rows.specs.Words.{round, across, count_of, crossing, Behind}
 use Rattle.crossing_rows.proofs.Listings.{crossing_skip, crossing_next, crossing_within, behind_none, behind_then}
 use Rattle.crossing_rows.proofs.Rowwise.{in_round, no_count, none_crossed}
 use Rattle.crossing_groups.proofs.find_row.Goals.{then-not-far_at+in-Found, else-not-far_at}

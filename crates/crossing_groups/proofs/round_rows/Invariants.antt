@@ -1,4 +1,4 @@
-use mathlib.Core.Path.{◌≡◌, ap}
+use mathlib.Core.Path.{◌≡◌}
 use Prim.Native.Nat.{◌-◌, ◌≤◌}
 use Rattle.solids.specs.Solids.{solid}
 use Rattle.bounds.specs.Words.{span}

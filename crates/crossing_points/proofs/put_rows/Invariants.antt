@@ -1,4 +1,3 @@
-use mathlib.Core.Path.{ap}
 use Prim.Native.Nat.{◌+◌, ◌-◌}
 use Rattle.solids.specs.Solids.{solid}
 use Rattle.crossing_points.proofs.Rowwise.{Rowed}

@@ -1,8 +1,8 @@
 -- `weigh` meets its contract: the vertices below i are weighed.
 use mathlib.Core.Path.{◌≡◌, ap, ◌∙◌}
-use Prim.Native.Nat.{◌+◌, ◌-◌}
+use Prim.Native.Nat.{◌+◌}
 use native.Mathlib.Omega.{arith}
-use lib.IntN.{ℤ, ◌+ℤ◌, ◌*ℤ◌}
+use lib.IntN.{◌+ℤ◌, ◌*ℤ◌}
 use lib.ListN.{length-set}
 use Rattle.list_words.proofs.Widths.{back_16, back_32}
 use Rattle.solids.specs.Solids.{Solid, solid}

@@ -11,8 +11,7 @@ pub returns-then-w-gt256 : goal.returns-then-w-gt256
 unfolding kept_admission
 returns-then-w-gt256 c = rw (le-ltb _ _ c.if-w-gt128.false, lt-ltb _ _ c.if-w-gt256.true)
 
-pub returns-then-w-gt128 : goal.returns
+pub returns : goal.returns
 unfolding kept_admission
-returns-then-w-gt128 c =
-    let d = c in
-    rw (le-ltb _ _ d.if-w-gt128.false, le-ltb _ _ d.if-w-gt256.false) c.admit.ensures
+returns c =
+    rw (le-ltb _ _ c.if-w-gt128.false, le-ltb _ _ c.if-w-gt256.false) c.admit.ensures

@@ -5,7 +5,6 @@ use Rattle.solid_input.proofs.by_code.Goals as goal
 
 pub returns-else-bytes-gt32767 : goal.returns-else-bytes-gt32767
 returns-else-bytes-gt32767 c =
-    let d = c in
-    let a = d.args in
+    let a = c.args in
     let (op, e) = known a.code (omega arith) in
     rw (e, not_long op a.bytes.now (omega arith)) (c.of_bytes.ensures op e)

@@ -1,96 +1,76 @@
 -- `of_bytes` meets its contract: a fault in the first file, one in the second, bytes behind both, or what the two walks come to.
-use Prim.Native.Nat.{◌+◌, ◌-◌, ◌≤◌}
+use mathlib.Core.Path.{◌≡◌}
+use mathlib.Core.Bool.{false}
+use mathlib.Core.List.{List}
+use Prim.Native.Nat.{ℕ, ◌+◌, ◌-◌, ◌≤◌}
 use native.Mathlib.Omega.{arith}
-use lib.ListN.{length, drop, length-drop}
+use lib.ListN.{length, take, drop, length-drop}
 use lib.Seq.{take_all}
+use lib.Ieee.{Float}
 use Rattle.housefile.specs.Reader.{layout}
+use Rattle.housefile_reader.specs.declared.Walk.{Walk}
 use Rattle.housefile_reader.specs.Words.{Scanned}
 use Rattle.solid_input.proofs.Fronts.{Laid, fault_scanned, laid_scanned, laid_within, first_fault, second_fault, trailing, both_laid, of_walks_found}
 use Rattle.solid_input.proofs.of_bytes.Goals as goal
 
--- the first file, past its fault
-laid_A : (c : goal.Else-first)
-    → let k = c.scan-first in Laid k.result k.new.1.0 k.new.1.1.0 (layout c.args.bytes.now)
-laid_A c = let k = c.scan-first in laid_scanned k.result k.new.1.0 k.new.1.1.0 (layout c.args.bytes.now) k.ensures.0 c.if-first.false
+-- two files behind each other: a walk over each, the second over what the first left
+module _ (bs : List ℕ) (w : Walk) (ps : List Float) (cs : List ℕ) (s : Scanned (layout bs) w ps cs) (sound : w.fault ≡ false) where
+  -- the first file, past its fault
+  laid_A : Laid w ps cs (layout bs)
+  laid_A = laid_scanned w ps cs (layout bs) s sound
 
-within_A : (c : goal.Else-first) → c.scan-first.result.used ≤ length c.args.bytes.now
-within_A c = let l = laid_A c in laid_within c.args.bytes.now c.scan-first.result.used l.xs l.ds l.as_laid
+  within_A : w.used ≤ length bs
+  within_A = laid_within bs w.used laid_A.xs laid_A.ds laid_A.as_laid
 
--- the second one is looked for in the rest
-scanned_B : (c : goal.After-scan-second)
-    → let e = c in
-    let bs = e.args.bytes.now in
-    let k = c.scan-second in
-    Scanned (layout (drop e.scan-first.result.used bs)) k.result k.new.1.0 k.new.1.1.0
-scanned_B c =
-    let e = c in
-    let bs = e.args.bytes.now in
-    let n = e.scan-first.result.used in
-    rw (← take_all (length bs - n) (drop n bs) (rw (length-drop n bs) (omega arith))) c.scan-second.ensures.0
+  module _ (v : Walk) (qs : List Float) (es : List ℕ) (t : Scanned (layout (take (length bs - w.used) (drop w.used bs))) v qs es) where
+    -- the second one is looked for in the rest
+    scanned_B : Scanned (layout (drop w.used bs)) v qs es
+    scanned_B = rw (← take_all (length bs - w.used) (drop w.used bs) (rw (length-drop w.used bs) (let k = within_A in omega arith))) t
 
-laid_B : (c : goal.Else-second)
-    → let e = c in
-    let k = c.scan-second in
-    Laid k.result k.new.1.0 k.new.1.1.0 (layout (drop e.scan-first.result.used e.args.bytes.now))
-laid_B c =
-    let e = c in
-    let k = c.scan-second in
-    laid_scanned k.result k.new.1.0 k.new.1.1.0 (layout (drop e.scan-first.result.used e.args.bytes.now))
-    (scanned_B c) c.if-second.false
+    module _ (sound_B : v.fault ≡ false) where
+      laid_B : Laid v qs es (layout (drop w.used bs))
+      laid_B = laid_scanned v qs es (layout (drop w.used bs)) scanned_B sound_B
 
-within_B : (c : goal.Else-second)
-    → let e = c in
-    e.scan-first.result.used + c.scan-second.result.used ≤ length e.args.bytes.now
-within_B c =
-    let e = c in
-    let bs = e.args.bytes.now in
-    let n = e.scan-first.result.used in
-    let l = laid_B c in
-    omega (arith, within_A e, length-drop n bs, laid_within (drop n bs) c.scan-second.result.used l.xs l.ds l.as_laid)
+      within_B : w.used + v.used ≤ length bs
+      within_B = omega (arith, within_A, length-drop w.used bs, laid_within (drop w.used bs) v.used laid_B.xs laid_B.ds laid_B.as_laid)
 
 pub returns-then-first : goal.returns-then-first
 returns-then-first c =
-    let k = c in
-    let bs = k.args.bytes.now in
-    first_fault op bs (fault_scanned k.scan-first.result k.scan-first.new.1.0 k.scan-first.new.1.1.0 (layout bs) k.scan-first.ensures.0 c.if-first.true)
+    λ op known. first_fault op c.args.bytes.now (fault_scanned _ _ _ (layout c.args.bytes.now) c.scan-first.ensures.scanned c.if-first.true)
 
 pub slice_bounds-scan-count : goal.slice_bounds-scan-count
-slice_bounds-scan-count c = within_A c
+slice_bounds-scan-count c = within_A _ _ _ _ c.scan-first.ensures.scanned c.if-first.false
 
 pub slice_bounds-scan-start : goal.slice_bounds-scan-start
-slice_bounds-scan-start c = ?
+slice_bounds-scan-start c = within_A _ _ _ _ c.scan-first.ensures.scanned c.if-first.false
 
 pub returns-then-second : goal.returns-then-second
 returns-then-second c =
-    let k = c in
-    let e = k in
-    let bs = e.args.bytes.now in
-    let l = laid_A e in
-    second_fault op bs e.scan-first.result.used l.xs l.ds l.as_laid
-    (fault_scanned k.scan-second.result k.scan-second.new.1.0 k.scan-second.new.1.1.0 (layout (drop e.scan-first.result.used bs)) (scanned_B k) c.if-second.true)
+    let bs = c.args.bytes.now in
+    let l = laid_A _ _ _ _ c.scan-first.ensures.scanned c.if-first.false in
+    let s = scanned_B _ _ _ _ c.scan-first.ensures.scanned c.if-first.false _ _ _ c.scan-second.ensures.scanned in
+    λ op known. second_fault op bs c.scan-first.result.used l.xs l.ds l.as_laid
+    (fault_scanned _ _ _ (layout (drop c.scan-first.result.used bs)) s c.if-second.true)
 
 pub overflow_add-used : goal.overflow_add-used
-overflow_add-used c = omega (arith, within_B c)
+overflow_add-used c =
+    omega (arith, within_B _ _ _ _ c.scan-first.ensures.scanned c.if-first.false _ _ _ c.scan-second.ensures.scanned c.if-second.false)
 
 pub returns-then-used-second : goal.returns-then-used-second
 returns-then-used-second c =
-    let k = c in
-    let e = k in
-    let bs = e.args.bytes.now in
-    let l = laid_A e in
-    let m = laid_B k in
-    trailing op bs e.scan-first.result.used l.xs l.ds l.as_laid k.scan-second.result.used m.xs m.ds m.as_laid (λ all. omega arith)
+    let bs = c.args.bytes.now in
+    let l = laid_A _ _ _ _ c.scan-first.ensures.scanned c.if-first.false in
+    let m = laid_B _ _ _ _ c.scan-first.ensures.scanned c.if-first.false _ _ _ c.scan-second.ensures.scanned c.if-second.false in
+    λ op known. trailing op bs c.scan-first.result.used l.xs l.ds l.as_laid c.scan-second.result.used m.xs m.ds m.as_laid (λ all. omega arith)
 
-pub returns-then-first : goal.returns
-returns-then-first c =
-    let d = c in
-    let k = d in
-    let e = k in
-    let a = e.args in
-    let f = e.scan-first in
-    let g = k.scan-second in
-    let l = laid_A e in
-    let m = laid_B k in
-    rw (c.of_walks.ensures, both_laid op a.bytes.now f.result.used l.xs l.ds l.as_laid g.result.used m.xs m.ds m.as_laid (omega (arith, within_B k)))
-    (of_walks_found a.code f.result f.new.1.0 f.new.1.1.0 g.result g.new.1.0 g.new.1.1.0
-    op known (f.ensures.1.0, f.ensures.1.1, g.ensures.1.0, g.ensures.1.1) _ l.xs l.ds l.found _ m.xs m.ds m.found)
+pub returns : goal.returns
+returns c =
+    let bs = c.args.bytes.now in
+    let f = c.scan-first in
+    let g = c.scan-second in
+    let l = laid_A _ _ _ _ f.ensures.scanned c.if-first.false in
+    let m = laid_B _ _ _ _ f.ensures.scanned c.if-first.false _ _ _ g.ensures.scanned c.if-second.false in
+    let w = within_B _ _ _ _ f.ensures.scanned c.if-first.false _ _ _ g.ensures.scanned c.if-second.false in
+    λ op known. rw (c.of_walks.ensures, both_laid op bs f.result.used l.xs l.ds l.as_laid g.result.used m.xs m.ds m.as_laid (omega (arith, w)))
+    (of_walks_found c.args.code f.result f.new.points f.new.corners g.result g.new.points g.new.corners
+    op known (f.ensures.points_len.0, f.ensures.points_len.1, g.ensures.points_len.0, g.ensures.points_len.1) _ l.xs l.ds l.found _ m.xs m.ds m.found)

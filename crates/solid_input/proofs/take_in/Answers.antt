@@ -9,8 +9,7 @@ use Rattle.solid_input.proofs.take_in.Goals as goal
 pub returns-then-input-eq0 : goal.returns-then-input-eq0
 returns-then-input-eq0 c = no_letter _ (omega (arith, c.if-input-eq0.true))
 
-pub returns-then-input-eq0 : goal.returns
-returns-then-input-eq0 c =
-    let d = c in
-    let bs = d.args.input.now in
-    rw (at_letter bs (omega arith), ← d.code_of_lem.ensures, ← take_all (length bs - 1) (drop 1 bs) (rw (length-drop 1 bs) (omega arith))) c.by_code.ensures
+pub returns : goal.returns
+returns c =
+    let bs = c.args.input.now in
+    rw (at_letter bs (omega arith), ← c.code_of.ensures, ← take_all (length bs - 1) (drop 1 bs) (rw (length-drop 1 bs) (omega arith))) c.by_code.ensures

@@ -5,7 +5,6 @@ use Prim.Native.Nat.{ℕ, suc, ◌+◌, ◌-◌, ◌*◌, ◌≤◌}
 use native.Mathlib.Omega.{arith}
 use Rattle.list_words.specs.Lists.{up_to}
 use Rattle.results.specs.declared.End.{End}
-use Rattle.vertex_table.specs.Words.{others}
 use Rattle.fan_counts.specs.declared.Tally.{Tally}
 use Rattle.fan_counts.specs.Words.{tell}
 use Rattle.fan_counts.proofs.Telling.{near_self, near_then, near_less}
@@ -13,31 +12,34 @@ use Rattle.kept_lists.specs.Words.{rows, side_ends, facet_row}
 use Rattle.kept_lists.proofs.Counted.{tell_next, tell_none, row_skip_told}
 use Rattle.triangle_count.proofs.tell_row.Goals as goal
 
--- the ends with facet i of the other solid
-abbrev P : goal.Start invariant-loop decreases-loop → ℕ → List End
-P s = let a = s.args in side_ends (rows a.first-i.now a.crossed.now a.plan.base) a.halves.now a.plan.sizes a.x
-
 pub loop-i-init : goal.loop-i-init
-loop-i-init c = let s = c in
-    let a = s.args in
+loop-i-init c =
+    let a = c.args in
     let f = c.facet_row-from in
+    -- the ends with each facet of the other solid
+    let p : ℕ → List End = side_ends (rows a.first.now a.crossed.now a.plan.base) a.halves.now a.plan.sizes a.x in
     let n = rw (c.others.ensures, f.ensures) at c.first-i.ensures in
     let r = 256 * facet_row a.plan.sizes a.x in
     let z : r - r ≡ 0 = omega arith in
-    let e = row_skip_told s.requires.2 a.t a.x r c.first-i.result s.requires.3 (omega arith) n ∙ tell_none (P s) a.t (r - r) z in
+    let e = row_skip_told c.requires.2 a.t a.x r c.first-i.result c.requires.3 (omega arith) n ∙ tell_none p a.t (r - r) z in
     (c.first-i.ensures.low, c.first-i.ensures.high, rw f.ensures (sym e), near_less (near_self a.t) (omega arith))
 
 pub loop-i-preserved : goal.loop-i-preserved
-loop-i-preserved c = let s = c in
-    let a = s.args in
+loop-i-preserved c =
+    let a = c.args in
     let l = c.loop-i in
-    let p = c.tell_side-r in
+    let s = c.tell_side-r in
     let f = c.facet_row-from in
+    let p : ℕ → List End = side_ends (rows a.first.now a.crossed.now a.plan.base) a.halves.now a.plan.sizes a.x in
     let n = rw (c.others.ensures, f.ensures) at c.next-i.ensures in
     let r = 256 * facet_row a.plan.sizes a.x in
-    let low : r ≤ l.i = omega (arith, l.invariant.0, f.ensures) in
+    let low : r ≤ l.i = omega (arith, f.ensures) in
     let d : (l.i + 1) - r ≡ suc (l.i - r) = omega arith in
-    let step : p.result ≡ tell a.t (flat_map (P s) (up_to (suc (l.i - r)))) =
-    rw f.ensures at p.ensures.0 ∙ ap (λ (t : Tally). tell t (P s (l.i - r))) (rw f.ensures at l.invariant.2) ∙ sym (tell_next (P s) a.t (l.i - r)) in
-    let skip = row_skip_told s.requires.2 a.t a.x (l.i + 1) c.next-i.result s.requires.3 (omega arith) n ∙ ap (λ m. tell a.t (flat_map (P s) (up_to m))) d in
-    (omega (arith, c.next-i.ensures.low, l.invariant.0), c.next-i.ensures.high, rw f.ensures (step ∙ sym skip), near_less (near_then l.invariant.3 p.ensures.1) (omega (arith, c.next-i.ensures.low, l.invariant.0)))
+    let step : s.result ≡ tell a.t (flat_map p (up_to (suc (l.i - r)))) =
+    rw f.ensures at s.ensures.told ∙ ap (λ (t : Tally). tell t (p (l.i - r))) (rw f.ensures at l.invariant.2) ∙ sym (tell_next p a.t (l.i - r)) in
+    let skip = row_skip_told c.requires.2 a.t a.x (l.i + 1) c.next-i.result c.requires.3 (omega arith) n ∙ ap (λ m. tell a.t (flat_map p (up_to m))) d in (
+      omega (arith, c.next-i.ensures.low),
+      c.next-i.ensures.high,
+      rw f.ensures (step ∙ sym skip),
+      near_less (near_then l.invariant.3 s.ensures.near) (omega (arith, c.next-i.ensures.low)),
+    )

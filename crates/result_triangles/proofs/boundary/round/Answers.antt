@@ -1,67 +1,68 @@
 -- `round` meets its contract: one half-edge after the other.
-use mathlib.Core.Path.{◌≡◌, ap}
+use mathlib.Core.Path.{◌≡◌}
 use mathlib.Core.List.{List, ◌++◌}
 use Prim.Native.Nat.{ℕ, ◌+◌, ◌*◌, ◌<◌, ◌≤◌}
 use native.Mathlib.Omega.{arith}
+use lib.IntN.{ℤ}
 use lib.ListN.{length}
-use Rattle.solids.specs.Solids.{Half}
+use Rattle.layouts.specs.declared.Sizes.{Sizes}
 use Rattle.joined_ends.proofs.Flat.{behind_more, length_numbers}
 use Rattle.joined_ends.specs.Words.{flat}
 use Rattle.vertex_table.specs.Words as T
 use Rattle.kept_lists.specs.Words as K
-use Rattle.kept_lists.specs.Words.{rows, dense}
+use Rattle.kept_lists.specs.Words.{Rows, rows, dense}
 use Rattle.kept_lists.proofs.Same.{same_half}
 use Rattle.result_triangles.proofs.boundary.round.Goals as goal
 
--- the three half-edges, and that the lists have them
-abbrev H : (s : goal.Start) → ℕ → List Half
-H s h = T.half (dense s.args.plan.sizes s.args.inc.now s.args.num.now (rows s.args.first.now s.args.crossed.now s.args.plan.base)) s.args.halves.now s.args.plan.sizes h
+-- the three half-edges, as the lists have them
+module _ (inc : List ℤ) (num : List ℕ) (w : Rows) (hs : List ℕ) (z : Sizes) (halves : T.Halves hs z) (x : ℕ) (h : x < z.fa + z.fb) where
+  round_is : T.round (dense z inc num w) hs z x ≡ K.half inc num w hs z (3 * x) ++ (K.half inc num w hs z (3 * x + 1) ++ K.half inc num w hs z (3 * x + 2))
+  unfolding T.round
+  round_is =
+      rw (
+        same_half hs z inc num w halves (3 * x) (omega arith),
+        same_half hs z inc num w halves (3 * x + 1) (omega arith),
+        same_half hs z inc num w halves (3 * x + 2) (omega arith),
+      )
 
-same : (s : goal.Start) (h : ℕ) → h < 3 * (s.args.plan.sizes.fa + s.args.plan.sizes.fb) → K.half s.args.inc.now s.args.num.now (rows s.args.first.now s.args.crossed.now s.args.plan.base) s.args.halves.now s.args.plan.sizes h ≡ H s h
-same s h k = same_half s.args.halves.now s.args.plan.sizes s.args.inc.now s.args.num.now (rows s.args.first.now s.args.crossed.now s.args.plan.base) s.requires.0.0.halves h k
+  room : (to n : ℕ) → to + length (flat (T.round (dense z inc num w) hs z x)) ≤ n
+      → to + (length (flat (K.half inc num w hs z (3 * x))) + (length (flat (K.half inc num w hs z (3 * x + 1))) + length (flat (K.half inc num w hs z (3 * x + 2))))) ≤ n
+  room to n f =
+      let a = K.half inc num w hs z (3 * x) in
+      let b = K.half inc num w hs z (3 * x + 1) in
+      let c = K.half inc num w hs z (3 * x + 2) in
+      omega (arith, rw round_is at f, length_numbers a (b ++ c), length_numbers b c)
 
-room : (s : goal.Start) → let x = s.args.x in
-    s.args.to + (length (flat (H s (3 * x))) + (length (flat (H s (3 * x + 1))) + length (flat (H s (3 * x + 2))))) ≤ length s.args.list-1.now
-unfolding T.round
-room s =
-    let x = s.args.x in
-    let e = length_numbers (H s (3 * x)) (H s (3 * x + 1) ++ H s (3 * x + 2)) in
-    let d = length_numbers (H s (3 * x + 1)) (H s (3 * x + 2)) in
-    omega (arith, e, d, s.requires.1)
+pub half_pieces-p-requires-clause-h_in_bounds : goal.half_pieces-p-requires-clause-h_in_bounds
+half_pieces-p-requires-clause-h_in_bounds c =
+    let a = c.args in
+    let s = c.requires.ready in
+    omega (arith, room a.inc.now a.num.now (rows a.first.now a.crossed.now a.plan.base) a.halves.now a.plan.sizes s.0.halves a.x s.2 a.to _ c.requires.x_in_bounds)
 
--- what stands there after each of the first two
-abbrev first_of : goal.After-half_pieces-p → goal.Start
-first_of c = c
+pub half_pieces-q-requires-clause-h_in_bounds : goal.half_pieces-q-requires-clause-h_in_bounds
+half_pieces-q-requires-clause-h_in_bounds c =
+    let a = c.args in
+    let s = c.requires.ready in
+    let p = c.half_pieces-p in
+    let r = room a.inc.now a.num.now (rows a.first.now a.crossed.now a.plan.base) a.halves.now a.plan.sizes s.0.halves a.x s.2 a.to _ c.requires.x_in_bounds in
+    omega (arith, r, p.ensures.next, p.auto.list)
 
-next_1 : (c : goal.After-half_pieces-p) → let s = first_of c in c.half_pieces-p.result ≡ s.args.to + length (flat (H s (3 * s.args.x)))
-next_1 c = let s = first_of c in rw (← same s (3 * s.args.x) (omega (arith, s.pre.0.2))) c.half_pieces-p.ensures.next
-
-pub half_pieces-p-requires : goal.half_pieces-p-requires
-half_pieces-p-requires c = let s = c in ((s.requires.0.0, s.requires.0.1, omega (arith, s.requires.0.2)), rw (same s (3 * s.args.x) (omega (arith, s.requires.0.2))) (omega (arith, room s)))
-
-pub half_pieces-q-requires : goal.half_pieces-q-requires
-half_pieces-q-requires c =
-    let h = c in
-    let s = first_of h in
-    ((s.pre.0.0, s.pre.0.1, omega (arith, s.pre.0.2)), rw (same s (3 * s.args.x + 1) (omega (arith, s.pre.0.2))) (omega (arith, room s, next_1 h, h.half_pieces-p.auto.1.1.1.1.1.1.1.1.0)))
-
-pub half_pieces-requires : goal.half_pieces-requires
-half_pieces-requires c =
-    let g = c in
-    let h = g in
-    let s = first_of h in
-    let e = h.half_pieces-p in
-    let d = g.half_pieces-q in
-    let q = ap (λ (ps : List Half). length (flat ps)) (same s (3 * s.args.x + 1) (omega (arith, s.pre.0.2))) in
-    ((s.pre.0.0, s.pre.0.1, omega (arith, s.pre.0.2)), rw (same s (3 * s.args.x + 2) (omega (arith, s.pre.0.2))) (omega (arith, room s, next_1 h, e.auto.1.1.1.1.1.1.1.1.0, d.ensures.next, q, d.auto.1.1.1.1.1.1.1.1.0)))
+pub half_pieces-requires-clause-h_in_bounds : goal.half_pieces-requires-clause-h_in_bounds
+half_pieces-requires-clause-h_in_bounds c =
+    let a = c.args in
+    let s = c.requires.ready in
+    let p = c.half_pieces-p in
+    let q = c.half_pieces-q in
+    let r = room a.inc.now a.num.now (rows a.first.now a.crossed.now a.plan.base) a.halves.now a.plan.sizes s.0.halves a.x s.2 a.to _ c.requires.x_in_bounds in
+    omega (arith, r, p.ensures.next, p.auto.list, q.ensures.next, q.auto.list)
 
 pub returns : goal.returns
-unfolding T.round
 returns c =
-    let g = c in
-    let h = g in
-    let s = first_of h in
-    let x = s.args.x in
-    let k = s.pre.0.2 in
-    behind_more (H s (3 * x)) (H s (3 * x + 1) ++ H s (3 * x + 2)) (rw (same s (3 * x) (omega arith)) at h.half_pieces-p.ensures)
-    (behind_more (H s (3 * x + 1)) (H s (3 * x + 2)) (rw (same s (3 * x + 1) (omega arith)) at g.half_pieces-q.ensures) (rw (same s (3 * x + 2) (omega arith)) at c.half_pieces.ensures))
+    let a = c.args in
+    let s = c.requires.ready in
+    let w = rows a.first.now a.crossed.now a.plan.base in
+    let z = a.plan.sizes in
+    let half = K.half a.inc.now a.num.now w a.halves.now z in
+    rw (round_is a.inc.now a.num.now w a.halves.now z s.0.halves a.x s.2)
+    (behind_more (half (3 * a.x)) (half (3 * a.x + 1) ++ half (3 * a.x + 2)) c.half_pieces-p.ensures
+    (behind_more (half (3 * a.x + 1)) (half (3 * a.x + 2)) c.half_pieces-q.ensures c.half_pieces.ensures))
