@@ -12,7 +12,7 @@ use lib.ListN.{length}
 use Rattle.list_words.specs.Lists.{onto}
 use Rattle.list_words.proofs.Tests.{or-false}
 use Rattle.solids.specs.Refusals.{answer_of, no_refusal}
-use Rattle.solids.specs.Solids.{Solid, vertices}
+use Rattle.solids.specs.Solids.{Solid}
 use Rattle.solids.specs.declared.Verdict.TheVariants.{Accepted}
 use Rattle.solids.specs.Admission.{admission}
 use Rattle.solids.proofs.Admitted.{passed}

@@ -22,7 +22,6 @@ use Rattle.vertex_table.proofs.Good.{good, read_triangles}
 use Rattle.kept_lists.specs.Words as K
 use Rattle.kept_lists.proofs.Found.{listing_columns}
 use Rattle.kept_lists.proofs.Use.{walked_triangles, walked_balanced}
-use Rattle.crossing_rows.specs.Words.{rows}
 use Rattle.crossing_rows.proofs.Room.{enough}
 use Rattle.result_numbers.specs.Words.{Numbered}
 use Rattle.result_numbers.proofs.Listed.{listed}

@@ -20,7 +20,7 @@ pub record First (count : ℕ) (fault : ℕ → Bool) (place : ℕ) : Type 0 whe
   pub there : fault place ≡ true
   pub none_before : (i : ℕ) → i < place → fault i ≡ false
 
--- "a place: the first blank or out_of_range vertex for 3 and 4; the first faulty facet for corner faults; for 6 the first facet with a half-edge whose
+-- "a place: the first blank or out-of-range vertex for 3 and 4; the first faulty facet for corner faults; for 6 the first facet with a half-edge whose
 -- two directions differ in number. Others carry place 0."
 pub data Placed (s : Solid) : Answer → Type 0 where
   at_1 : Placed s (on_solid 1 0)
