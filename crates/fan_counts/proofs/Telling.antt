@@ -226,37 +226,3 @@ tally_count l ends c p j o =
     let m = flat_map (λ x. all_ends (ends x)) l in
     let at = least_told (flat_map ends l) (tell none_yet (flat_map ends l)) h m (λ v. times_flat v ends l ∙ sym (at_flat v ends l)) in
     omega (arith, boundary_count l ends c p j o, h.pieces, pieces_flat ends l, at, at_flat (least_of m) ends l)
-
--- ---- the cases of one end more
-size_none : (n : ℤ) → below n + above n ≡ 0 → nonzero n ≡ false
-size_none (pos zero) h = refl
-size_none (pos (suc n)) h = absurd (omega arith)
-size_none (negsuc n) h = absurd (omega arith)
-
-size_some : (n : ℤ) → (below n + above n ≡ 0 → ⊥) → nonzero n ≡ true
-size_some (pos zero) h = absurd (h refl)
-size_some (pos (suc n)) h = refl
-size_some (negsuc n) h = refl
-
-size_abs : (n : ℤ) → nat_abs n ≡ below n + above n
-size_abs n = omega (arith, abs_parts n)
-
-module _ (t : Tally) (e : End) (s u : ℕ) (es : s ≡ below e.count) (eu : u ≡ above e.count) where
-  pub told_off : s + u ≡ 0 → told t e ≡ t
-  told_off z = let q = size_none e.count (omega (arith, es, eu)) in rw q
-
-  module _ (some : s + u ≡ 0 → ⊥) where
-    counts_some : nonzero e.count ≡ true
-    counts_some = size_some e.count (λ z. some (omega (arith, es, eu)))
-
-    pub told_first : t.at ≡ 0 → record { pieces = t.pieces + s; least = e.vertex; at = s + u } ≡ told t e
-    told_first z = rw (counts_some, eq-eqb t.at 0 z, size_abs e.count, es, eu)
-
-    pub told_lower : (t.at ≡ 0 → ⊥) → e.vertex < t.least → record { pieces = t.pieces + s; least = e.vertex; at = s + u } ≡ told t e
-    told_lower n l = rw (counts_some, ne_eqb t.at 0 n, lt-ltb _ _ l, size_abs e.count, es, eu)
-
-    pub told_there : (t.at ≡ 0 → ⊥) → t.least ≤ e.vertex → t.least ≡ e.vertex → record { pieces = t.pieces + s; least = t.least; at = t.at + (s + u) } ≡ told t e
-    told_there n l q = rw (counts_some, ne_eqb t.at 0 n, le-ltb _ _ l, eq-eqb _ _ q, size_abs e.count, es, eu)
-
-    pub told_higher : (t.at ≡ 0 → ⊥) → t.least ≤ e.vertex → (t.least ≡ e.vertex → ⊥) → record { pieces = t.pieces + s; least = t.least; at = t.at } ≡ told t e
-    told_higher n l q = let z : t.at + 0 ≡ t.at = omega arith in rw (counts_some, ne_eqb t.at 0 n, le-ltb _ _ l, ne_eqb _ _ q, es, z)

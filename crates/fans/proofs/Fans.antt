@@ -99,9 +99,6 @@ laid_more {ts} {us} {cs₀} {os₀} {cs} {os} {cs'} {os'} {k₀} {k} {k'} a b =
     }
 
 module _ {ts : List Triangle} {cs₀ os₀ cs os : List ℕ} {k : ℕ} where
-  pub laid_long : {k₀ : ℕ} → Laid ts cs₀ os₀ k₀ cs os k → (length cs ≡ length cs₀) × (length os ≡ length os₀)
-  laid_long {k₀} a = (ap length a.corners ∙ length-sets cs₀ (3 * k₀) (flat_map corners_of ts), ap length a.origins ∙ length-sets os₀ k₀ (origins_of ts))
-
   -- where there is room, the fronts hold the triangles, and everything behind is as before
   pub laid_onto : Laid ts cs₀ os₀ 0 cs os k → 3 * k ≤ length cs₀ → k ≤ length os₀ → (cs ≡ onto (flat_map corners_of ts) cs₀) × (os ≡ onto (origins_of ts) os₀)
   laid_onto a h g =

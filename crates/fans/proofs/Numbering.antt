@@ -17,14 +17,6 @@ pub record Numbering (inc : List ℤ) (num₀ num : List ℕ) (from many start k
   pub before : (x : ℕ) → x < from → get_or num x 0 ≡ get_or num₀ x 0
   pub ranked : (t : List ℤ) (slot : ℕ) → Follows t inc slot from many → start ≡ rank t slot → Ranked t num slot from i k
 
-pub numbering_none : (inc : List ℤ) (num : List ℕ) (from many start : ℕ) → Numbering inc num num from many start start 0
-numbering_none inc num from many start =
-    record {
-      few = omega arith;
-      before = λ x h. refl;
-      ranked = λ t slot f e. let z : slot + 0 ≡ slot = omega arith in record { next = e ∙ ap (rank t) (sym z); each = λ x h. absurd (omega (arith, h)) };
-    }
-
 module _ {inc : List ℤ} {num₀ num : List ℕ} {from many start k i : ℕ} (g : Numbering inc num₀ num from many start k i) (h : i < many) (r : from + i < length num) where
   step : (d : ℕ) → d ≡ length (keep nonzero (get_or inc (from + i) (pos 0) ∷ [])) → d ≤ 1 → Numbering inc num₀ (set num (from + i) k) from many start (k + d) (i + 1)
   step d e few =

@@ -132,15 +132,3 @@ module _ (inc : List ℤ) (num : List ℕ) (w : Rows) (hs : List ℕ) (z : Sizes
       pub line_room : (256 * row + 256 ≤ 64 * length l) × (many ≤ 256) × (row ≤ 768)
       line_room = let r = row_in halves h hh in let m = many_in in let g = edges.long in
           (omega (arith, er, em), omega (arith, em), omega (arith, er, halves.sized.ea, halves.sized.eb))
-
-pub corner_in : {hs : List ℕ} {z : Sizes} → Halves hs z → (h : ℕ) → h < 3 * (z.fa + z.fb) → (corner_at hs z h 1 < z.va + z.vb) × (corner_at hs z h 2 < z.va + z.vb)
-corner_in {hs} {z} halves h hh = elim (dec_lt h (3 * z.fa)) [
-  | yes a ↦ rw (lt-ltb _ _ a) (omega (arith, halves.start_A h a), omega (arith, halves.end_A h a))
-  | no b ↦ let a : 3 * z.fa ≤ h = omega arith in rw (le-ltb _ _ a) (omega (arith, halves.start_B h a hh), omega (arith, halves.end_B h a hh))
-]
-
-pub row_few : {hs : List ℕ} {z : Sizes} → Halves hs z → (h : ℕ) → h < 3 * (z.fa + z.fb) → line_row hs z h ≤ 768
-row_few {hs} {z} halves h hh = elim (dec_lt h (3 * z.fa)) [
-  | yes a ↦ rw (lt-ltb _ _ a) (omega (arith, halves.edge_A h a, halves.sized.ea))
-  | no b ↦ let a : 3 * z.fa ≤ h = omega arith in rw (le-ltb _ _ a) (omega (arith, halves.edge_B h a hh, halves.sized.ea, halves.sized.eb))
-]

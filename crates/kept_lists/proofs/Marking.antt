@@ -15,20 +15,6 @@ use Rattle.vertex_table.specs.Words.{others}
 use Rattle.marks.specs.Words.{marked, Next}
 use Rattle.kept_lists.specs.Words.{mark_at, line_row, line_many, facet_row, mirror, More, Listed, Spread}
 
-or_right : (b : Bool) → (b || true) ≡ true
-or_right true = refl
-or_right false = refl
-
-module _ (old new : List ℕ) (i : ℕ) (e : (j : ℕ) → marked new j ≡ (eqb i j || marked old j)) where
-  pub mark_more : More old new
-  mark_more = record { keeps = λ j t. e j ∙ ap (λ b. eqb i j || b) t ∙ or_right (eqb i j) }
-
-  pub mark_there : marked new i ≡ true
-  mark_there = e i ∙ ap (λ b. b || marked old i) (eq-eqb i i refl)
-
-pub more_self : (l : List ℕ) → More l l
-more_self l = record { keeps = λ j t. t }
-
 pub more_then : {a b c : List ℕ} → More a b → More b c → More a c
 more_then f g = record { keeps = λ j t. g.keeps j (f.keeps j t) }
 
@@ -40,49 +26,10 @@ not_before {old} {new} m j q = go (marked old j) refl
     go false e = refl
     go true e = absurd (never (marked new j) (m.keeps j e) q)
 
--- ---- by edge
-pub listed_more : {z : Sizes} {first crossed l l' : List ℕ} {r k : ℕ} → More l l' → Listed z first crossed l r k → Listed z first crossed l' r k
-listed_more {z} {first} {crossed} {l} {l'} {r} {k} m f = record { each = λ j a b. m.keeps (mark_at z r (column (get_or crossed j 0))) (f.each j a b) }
-
-pub listed_next : {z : Sizes} {first crossed l l' : List ℕ} {r k : ℕ} → Listed z first crossed l r k → More l l' → marked l' (mark_at z r (column (get_or crossed k 0))) ≡ true → Listed z first crossed l' r (k + 1)
-listed_next {z} {first} {crossed} {l} {l'} {r} {k} f m t = record {
-  each = λ j a b. elim (dec_lt j k) [
-    | yes h ↦ m.keeps (mark_at z r (column (get_or crossed j 0))) (f.each j a h)
-    | no n ↦ let e : j ≡ k = omega arith in rw e t
-  ];
-}
-
 -- ---- by facet
 module _ {z : Sizes} {hs old : List ℕ} {x h : ℕ} where
   pub spread_more : {l l' : List ℕ} {n : ℕ} → More l l' → Spread z hs old l x h n → Spread z hs old l' x h n
   spread_more m f = record { each = λ i k t. let r = f.each i k t in (m.keeps (256 * facet_row z x + i) r.0, m.keeps (mirror z x i) r.1) }
-
-  spread_one : {l l' : List ℕ} {n : ℕ} → Spread z hs old l x h n → More l l' → marked l' (256 * facet_row z x + n) ≡ true → marked l' (mirror z x n) ≡ true → Spread z hs old l' x h (suc n)
-  spread_one {l} {l'} {n} f m p q = record {
-    each = λ i k t. elim (dec_lt i n) [
-      | yes a ↦ (spread_more m f).each i a t
-      | no b ↦ let e : i ≡ n = omega arith in rw e (p, q)
-    ];
-  }
-
-  module _ {row end : ℕ} (er : row ≡ line_row hs z h) where
-    -- the marks are read in a list that has more by now
-    pub spread_next : {now l : List ℕ} {i r : ℕ} → More old now → Spread z hs old l x h (i - 256 * row) → 256 * row ≤ i → Next now i end r → Spread z hs old l x h (r - 256 * row)
-    spread_next {now} {l} {i} {r} m f low n = record {
-      each = λ k a t. elim (dec_lt k (i - 256 * row)) [
-        | yes b ↦ f.each k b t
-        | no c ↦ absurd (never (marked now (256 * row + k)) (rw er (m.keeps (256 * line_row hs z h + k) t)) (n.clear (256 * row + k) (omega arith) (omega arith)))
-      ];
-    }
-
-    pub spread_first : {l : List ℕ} {r : ℕ} → Next old (256 * row) end r → Spread z hs old l x h (r - 256 * row)
-    spread_first {l} {r} n = spread_next (more_self old) (record { each = λ i k t. absurd (omega arith) }) (omega arith) n
-
-    pub spread_after : {l l' : List ℕ} {i r : ℕ} → Spread z hs old l x h (i - 256 * row) → More old l → More l l' → marked l' (256 * facet_row z x + (i - 256 * row)) ≡ true → marked l' (mirror z x (i - 256 * row)) ≡ true
-        → 256 * row ≤ i → Next l' (i + 1) end r → Spread z hs old l' x h (r - 256 * row)
-    spread_after {l} {l'} {i} {r} f m₀ m p q low n =
-        let e : suc (i - 256 * row) ≡ (i + 1) - 256 * row = omega arith in
-        spread_next (more_then m₀ m) (subst (Spread z hs old l' x h) e (spread_one f m p q)) (omega arith) n
 
 -- if what more marks said is marked, so is what fewer said
 spread_old : {z : Sizes} {hs old old' l : List ℕ} {x h n : ℕ} → More old old' → Spread z hs old' l x h n → Spread z hs old l x h n
@@ -98,14 +45,6 @@ many_others z x h a b = elim (dec_lt x z.fa) [
 -- every row, and every half-edge of every facet, so far
 pub record RowsSoFar (z : Sizes) (first crossed l : List ℕ) (n : ℕ) : Type 0 where
   pub each : (r : ℕ) → r < n → Listed z first crossed l r (get_or first (r + 1) 0)
-
-pub rows_more : {z : Sizes} {first crossed l l' : List ℕ} {n : ℕ} → RowsSoFar z first crossed l n → More l l' → Listed z first crossed l' n (get_or first (n + 1) 0) → RowsSoFar z first crossed l' (n + 1)
-rows_more {z} {first} {crossed} {l} {l'} {n} f m g = record {
-  each = λ r h. elim (dec_lt r n) [
-    | yes k ↦ listed_more m (f.each r k)
-    | no k ↦ let e : r ≡ n = omega arith in rw e g
-  ];
-}
 
 pub record FacetsSoFar (z : Sizes) (hs old l : List ℕ) (n : ℕ) : Type 0 where
   pub each : (x h : ℕ) → x < n → 3 * x ≤ h → h < 3 * x + 3 → Spread z hs old l x h (others z x)

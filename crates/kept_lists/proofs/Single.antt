@@ -10,16 +10,6 @@ use Rattle.results.specs.declared.End.{End}
 use Rattle.results.specs.Pieces.{starts, stops, pieces}
 use Rattle.joined_ends.specs.Words.{Behind}
 
-pub behind_two : (l : List ℕ) (at from to : ℕ) → at + 2 ≤ length l → Behind (from ∷ to ∷ []) l at (set (set l at from) (at + 1) to) (at + 2)
-behind_two l at from to h =
-    let e : at + 2 ≡ suc (at + 1) = omega arith in
-    let d : at + 1 ≡ suc at = omega arith in
-    record {
-      front = ap (λ n. take n (set (set l at from) (at + 1) to)) e ∙ take-suc-set (set l at from) (at + 1) to (rw length-set (omega arith))
-          ∙ ap (λ n. take n (set l at from) ++ (to ∷ [])) d ∙ ap (λ m. m ++ (to ∷ [])) (take-suc-set l at from (omega arith)) ∙ append_assoc (take at l) (from ∷ []) (to ∷ []);
-      next = refl;
-    }
-
 -- as counts are
 abbrev end : ℕ → ℤ → End
 end v n = record { vertex = v; count = n }

@@ -21,7 +21,7 @@ use Rattle.housefile.specs.Reader.{too_short}
 use Rattle.housefile.proofs.Refusals.{in_order_numbered, given_numbered}
 use Rattle.housefile.proofs.RoundTrip.{solid_back}
 use Rattle.outage_rows.specs.Row.{row}
-use Rattle.outage_rows.specs.Bounds.{present, bounds}
+use Rattle.outage_rows.specs.Bounds.{bounds}
 use Rattle.outage_rows.specs.Boxed.{boxing, check_row, box_of, boxed}
 use Rattle.outage_rows.specs.Boxes.{Boxes, inside, solid_boxed}
 use Rattle.outage_rows.proofs.Computing.{the_rule}

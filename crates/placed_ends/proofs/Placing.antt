@@ -28,13 +28,3 @@ module _ (side v : ℕ) (s : Side) where
 module _ (side v n i : ℕ) (s : Side) where
   pub times_step : (l : List ℕ) (k : ℕ) → i < n → l ≡ (put_once side v s).0 → k ≡ (put_once side v s).1 → put_times side v (n - (i + 1)) (l, k) ≡ put_times side v (n - i) s
   times_step l k h e d = let q : n - i ≡ suc (n - (i + 1)) = omega arith in rw (e, d, q)
-
-  pub times_end : n ≤ i → put_times side v (n - i) s ≡ s
-  times_end h = let q : n - i ≡ 0 = omega arith in rw q
-
--- ---- one end: its starts, then its stops
-pub placed_by : (l : List ℕ) (c : Counts) (e : End) (a b k j : ℕ) (l₁ l₂ : List ℕ) → a ≡ below e.count → b ≡ above e.count
-    → (l₁ ≡ (put_times 0 e.vertex a (l, c.starts)).0) × (k ≡ (put_times 0 e.vertex a (l, c.starts)).1)
-    → (l₂ ≡ (put_times 1 e.vertex b (l₁, c.stops)).0) × (j ≡ (put_times 1 e.vertex b (l₁, c.stops)).1)
-    → (l₂ ≡ (placed (l, c) e).0) × (record { starts = k; stops = j } ≡ (placed (l, c) e).1)
-placed_by l c e a b k j l₁ l₂ ea eb p q = rw (q.0, q.1, p.0, p.1, ea, eb) (refl, refl)

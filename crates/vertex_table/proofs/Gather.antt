@@ -70,15 +70,3 @@ turn_pieces false es = rw map-id
 pub flip_off : (b : Bool) (e : End) → flip (not b) e ≡ flip b (off e)
 flip_off true e = rw (neg_ℤ-neg_ℤ e.count)
 flip_off false e = refl
-
-pub flip_a : (t g : Bool) (e : End) → flip (alike t g) e ≡ flip t (flip (not g) e)
-flip_a true true e = refl
-flip_a true false e = rw (neg_ℤ-neg_ℤ e.count)
-flip_a false true e = refl
-flip_a false false e = refl
-
-pub flip_b : (t g : Bool) (e : End) → flip (alike t (not g)) e ≡ flip t (flip g e)
-flip_b true true e = rw (neg_ℤ-neg_ℤ e.count)
-flip_b true false e = refl
-flip_b false true e = refl
-flip_b false false e = refl

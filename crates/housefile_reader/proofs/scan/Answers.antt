@@ -28,3 +28,6 @@ loop-w-preserved c =
     rw (c.step-w.ensures, c.keep.ensures.points_after, c.keep.ensures.corners_after)
     (walk_goes_on c.args.bytes.now c.loop-w.w c.loop-w.points c.loop-w.corners c.loop-w.invariant c.loop-w-test.true c.decode-found.result
     (begun c.args.bytes.now c.loop-w.w.used _ c.loop-w.invariant.within c.decode-found.ensures))
+
+pub returns-clause-scanned : goal.returns-clause-scanned
+returns-clause-scanned c = ?

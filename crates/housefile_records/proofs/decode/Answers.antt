@@ -1,7 +1,7 @@
 -- `decode` meets its contract, mark by mark.
 use mathlib.Core.Path.{◌≡◌, refl, sym, ◌∙◌}
 use native.Mathlib.Omega.{arith}
-use Rattle.numbers.specs.Numbers.{number, number_at, float_at}
+use Rattle.numbers.specs.Numbers.{number, number_at}
 use Rattle.housefile.specs.declared.Record.TheVariants.{Vx, Fc, En}
 use Rattle.housefile.specs.Records.{mark_VX, mark_FC, mark_EN}
 use Rattle.housefile.proofs.Records.{unmarked, too_few, other_mark, marked_not, begins_decoded}

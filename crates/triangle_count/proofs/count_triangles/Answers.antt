@@ -1,5 +1,5 @@
 -- `count_triangles` meets its contract: the triangles of the first x facets are counted, and no facet has more than 3075.
-use mathlib.Core.Path.{◌≡◌, refl}
+use mathlib.Core.Path.{refl}
 use mathlib.Core.List.{List, flat_map}
 use Prim.Native.Nat.{ℕ, ◌+◌, ◌<◌, ◌≤◌}
 use native.Mathlib.Numerals.{add-one}

@@ -18,11 +18,18 @@ use Rattle.kept_lists.proofs.Counted.{tell_next, tell_none, crossing_ends, line_
 use Rattle.triangle_count.proofs.tell_line.Goals as goal
 
 -- start and end are small, and so is what they tell
-two_near : (inc : List ℤ) (num hs : List ℕ) (z : Sizes) (h : ℕ) → ((i : ℕ) → nat_abs (vertex inc num i).count ≤ 257) → {t r₁ r₂ : Tally} {a b : End}
-    → a ≡ flip true (vertex inc num (corner_at hs z h 1)) → b ≡ vertex inc num (corner_at hs z h 2) → r₁ ≡ told t a → r₂ ≡ told r₁ b → Near t r₂ 514
-two_near inc num hs z h small {t} {r₁} {r₂} {a} {b} ea eb e₁ e₂ =
-    let i = corner_at hs z h 1 in
-    near_one {n = 257} b (near_one {n = 257} a (near_self t) e₁ (rw ea (flip_small true (vertex inc num i) 257 (small i)))) e₂ (rw eb (small (corner_at hs z h 2)))
+module _ (inc : List ℤ) (num hs : List ℕ) (z : Sizes) (h : ℕ) (small : (i : ℕ) → nat_abs (vertex inc num i).count ≤ 257) where
+  one_near : {t r : Tally} {e : End} → e ≡ flip true (vertex inc num (corner_at hs z h 1)) → r ≡ told t e → Near t r 257
+  one_near {t} {r} {e} q s = let i = corner_at hs z h 1 in near_one {n = 257} e (near_self t) s (rw q (flip_small true (vertex inc num i) 257 (small i)))
+
+  two_near : {t r s : Tally} {a b : End} → a ≡ flip true (vertex inc num (corner_at hs z h 1)) → b ≡ vertex inc num (corner_at hs z h 2) → r ≡ told t a → s ≡ told r b → Near t s 514
+  two_near {b = b} qa qb f g = near_one {n = 257} b (one_near qa f) g (rw qb (small (corner_at hs z h 2)))
+
+pub tell-r-requires : goal.tell-r-requires
+tell-r-requires c =
+    let a = c.args in
+    let n = one_near a.inc.now a.num.now a.halves.now a.plan.sizes a.h c.requires.0.vertices.small c.corner-start.ensures c.tell.ensures in
+    (omega (arith, n.pieces), omega (arith, n.at), rw c.corner-stop.ensures (c.requires.0.vertices.small (corner_at a.halves.now a.plan.sizes a.h 2)))
 
 pub loop-i-init : goal.loop-i-init
 loop-i-init c =
