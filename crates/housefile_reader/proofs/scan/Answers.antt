@@ -5,6 +5,7 @@ use Prim.Native.Nat.{ℕ, ◌-◌, ◌≤◌}
 use native.Mathlib.Omega.{arith}
 use lib.ListN.{length, take, drop, length-drop}
 use lib.Seq.{take_all}
+use Rattle.std.proofs.lemmas.Grind.{common_steps}
 use Rattle.housefile.specs.declared.Record.{Record}
 use Rattle.housefile.specs.Records.{decoded}
 use Rattle.housefile_reader.proofs.Walks.{walk_starts, walk_goes_on, walk_less}
@@ -30,4 +31,4 @@ loop-w-preserved c =
     (begun c.args.bytes.now c.loop-w.w.used _ c.loop-w.invariant.within c.decode-found.ensures))
 
 pub returns-clause-scanned : goal.returns-clause-scanned
-returns-clause-scanned c = ?
+returns-clause-scanned c = grind (arith, common_steps)
