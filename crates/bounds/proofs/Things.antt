@@ -43,9 +43,9 @@ Lies Facets P s i = InFacet P (facet s i)
 nowhere_sound : Sound nowhere
 unfolding is_nan neg
 nowhere_sound = record {
-      low = λ k. elim k as (λ j. is_nan (coordinate j nowhere.low) ≡ false) [ X ↦ refl | Y ↦ refl | Z ↦ refl ];
-      high = λ k. elim k as (λ j. is_nan (coordinate j nowhere.high) ≡ false) [ X ↦ refl | Y ↦ refl | Z ↦ refl ]
-    }
+  low = λ k. elim k as (λ j. is_nan (coordinate j nowhere.low) ≡ false) [ X ↦ refl | Y ↦ refl | Z ↦ refl ];
+  high = λ k. elim k as (λ j. is_nan (coordinate j nowhere.high) ≡ false) [ X ↦ refl | Y ↦ refl | Z ↦ refl ];
+}
 
 -- ---- the box round boxes holds what one of them holds
 module _ (box : ℕ → Bounds) (sound : (i : ℕ) → Sound (box i)) (from : ℕ) where

@@ -8,7 +8,7 @@ use native.Mathlib.Numerals.{add-one}
 use native.Mathlib.Omega.{arith}
 use borrow.Author.Tests.{eq-eqb, ne_eqb}
 use lib.ListN.{length, get_or, take, set, length-append, length-map}
-use lib.Seq.{sets, length-sets, get_or-take}
+use lib.Seq.{sets, get_or-take}
 use Rattle.list_words.specs.Lists.{up_to, keep, least, onto}
 use Rattle.list_words.proofs.Sums.{flat_append}
 use Rattle.list_words.proofs.UpTo.{length_up_to}

@@ -16,7 +16,7 @@ use Rattle.housefile.specs.declared.Record.{Record}
 use Rattle.housefile.specs.declared.Record.TheVariants.{Vx, Fc, En, Fault}
 use Rattle.housefile.specs.Records.{size, decoded}
 use Rattle.housefile.specs.Reader.{Layout, fault, laid, after, layout}
-use Rattle.housefile_reader.specs.Words.{stepped, points_of, corners_of, kept, Held, Scanned}
+use Rattle.housefile_reader.specs.Words.{stepped, points_of, corners_of, kept, Held}
 use Rattle.housefile.proofs.Records.{size_within}
 use Rattle.housefile_reader.proofs.Kept.{kept_nothing}
 use Rattle.housefile.proofs.Steps.{layout_from, at_end, at_fault, late_vertex, at_vertex, at_facet, after_none, after_after}
@@ -185,24 +185,3 @@ module _ (bs : List ℕ) (w : Walk) (ps : List Float) (cs : List ℕ) (h : Walke
   walk_less (Fc p q r) e = let k = reaches (Fc p q r) e in rw going (omega arith)
   walk_less En e = let k = reaches En e in rw going (omega arith)
   walk_less Fault e = rw going (omega arith)
-
--- ---- the end of the walk
-pub walk_ends : (bs : List ℕ) (w : Walk) (ps : List Float) (cs : List ℕ) → Walked bs w ps cs → w.going ≡ false → Scanned (layout bs) w ps cs
-walk_ends bs w ps cs h stopped = by_fault w.fault refl
-  where
-    at_last : (l : Layout) → layout bs ≡ l → Scanned l w ps cs → Scanned (layout bs) w ps cs
-    at_last l e s = subst (λ l. Scanned l w ps cs) (sym e) s
-
-    by_fault : (b : Bool) → w.fault ≡ b → Scanned (layout bs) w ps cs
-    by_fault true e = at_last fault (h.so_far ∙ rw (stopped, e)) e
-    by_fault false e =
-        at_last (laid w.used h.xs h.ds)
-        (h.so_far ∙ rw (stopped, e, add-zero w.used, append-nil h.xs, append-nil h.ds))
-        (record {
-          sound = e;
-          all_used = refl;
-          points_long = h.points_long;
-          corners_long = h.corners_long;
-          points_held = h.points_held;
-          corners_held = h.corners_held;
-        })

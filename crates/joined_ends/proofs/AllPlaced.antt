@@ -1,9 +1,7 @@
 -- Every end: what is placed after some of them and then the rest.
-use mathlib.Core.Path.{◌≡◌, refl, ap, ◌∙◌}
+use mathlib.Core.Path.{◌≡◌, refl}
 use mathlib.Core.List.{List, [], ◌∷◌, ◌++◌}
-use Prim.Native.Nat.{ℕ, zero, suc}
-use lib.IntN.{pos}
-use lib.ListN.{length, get_or}
+use Prim.Native.Nat.{ℕ}
 use Rattle.results.specs.declared.End.{End}
 use Rattle.placed_ends.specs.declared.Counts.{Counts}
 use Rattle.placed_ends.specs.Words.{placed}

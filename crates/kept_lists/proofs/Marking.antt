@@ -1,19 +1,17 @@
 -- Marks are only added: what the loops that mark have done so far.
-use mathlib.Core.Path.{◌≡◌, refl, ap, ◌∙◌, subst}
-use mathlib.Core.Bool.{Bool, true, false, ◌||◌}
+use mathlib.Core.Path.{◌≡◌, refl}
+use mathlib.Core.Bool.{Bool, true, false}
 use mathlib.Core.List.{List}
-use Prim.Native.Nat.{ℕ, suc, ◌+◌, ◌-◌, ◌*◌, ◌<◌, ◌≤◌}
+use Prim.Native.Nat.{ℕ, ◌+◌, ◌*◌, ◌<◌, ◌≤◌}
 use native.Mathlib.Omega.{arith}
 use native.Mathlib.Decide.{dec_lt}
-use borrow.Author.Tests.{eq-eqb, lt-ltb, le-ltb}
-use lib.Dec.{eqb}
+use borrow.Author.Tests.{lt-ltb, le-ltb}
 use lib.ListN.{get_or}
 use Rattle.list_words.proofs.Tests.{never}
 use Rattle.layouts.specs.declared.Sizes.{Sizes}
-use Rattle.layouts.specs.Words.{column}
 use Rattle.vertex_table.specs.Words.{others}
-use Rattle.marks.specs.Words.{marked, Next}
-use Rattle.kept_lists.specs.Words.{mark_at, line_row, line_many, facet_row, mirror, More, Listed, Spread}
+use Rattle.marks.specs.Words.{marked}
+use Rattle.kept_lists.specs.Words.{line_row, line_many, facet_row, mirror, More, Listed, Spread}
 
 pub more_then : {a b c : List ℕ} → More a b → More b c → More a c
 more_then f g = record { keeps = λ j t. g.keeps j (f.keeps j t) }

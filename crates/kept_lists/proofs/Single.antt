@@ -1,14 +1,10 @@
 -- The pieces of two ends: none or one, if none or one of each side is there.
 use mathlib.Core.Path.{◌≡◌, refl, ap, ◌∙◌}
-use mathlib.Core.List.{List, [], ◌∷◌, ◌++◌, flat_map, zip, append_assoc}
-use Prim.Native.Nat.{ℕ, suc, ◌+◌, ◌≤◌}
-use native.Mathlib.Omega.{arith}
+use mathlib.Core.List.{[], ◌∷◌, flat_map, zip}
+use Prim.Native.Nat.{ℕ}
 use lib.IntN.{ℤ, pos, negsuc}
-use lib.ListN.{length, set, take, length-set}
-use lib.Seq.{take-suc-set}
 use Rattle.results.specs.declared.End.{End}
 use Rattle.results.specs.Pieces.{starts, stops, pieces}
-use Rattle.joined_ends.specs.Words.{Behind}
 
 -- as counts are
 abbrev end : ℕ → ℤ → End

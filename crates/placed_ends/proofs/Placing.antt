@@ -1,14 +1,11 @@
 -- What the loops that put starts and stops have done: what is left to put, put now, gives what the whole gives.
-use mathlib.Core.Path.{◌≡◌, refl, ap}
+use mathlib.Core.Path.{◌≡◌, ap}
 use mathlib.Core.List.{List}
 use Prim.Native.Nat.{ℕ, suc, ◌+◌, ◌-◌, ◌*◌, ◌/◌, ◌<◌, ◌≤◌}
 use native.Mathlib.Omega.{arith}
 use borrow.Author.Tests.{lt-ltb, le-ltb}
 use lib.ListN.{length, set}
-use Rattle.list_words.specs.Lists.{above, below}
-use Rattle.results.specs.declared.End.{End}
-use Rattle.placed_ends.specs.declared.Counts.{Counts}
-use Rattle.placed_ends.specs.Words.{put_once, put_times, placed}
+use Rattle.placed_ends.specs.Words.{put_once, put_times}
 
 abbrev pub Side : Type 0
 Side = List ℕ × ℕ

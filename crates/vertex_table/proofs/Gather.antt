@@ -2,7 +2,7 @@
 use mathlib.Core.Path.{◌≡◌, refl, sym, ap₂, ◌∙◌}
 use mathlib.Core.Bool.{Bool, true, false, not}
 use mathlib.Core.List.{List, [], ◌∷◌, ◌++◌, map, flat_map, zip, map-id, append-nil}
-use Prim.Native.Nat.{ℕ, zero, suc, ◌+◌}
+use Prim.Native.Nat.{ℕ, zero, suc}
 use lib.IntN.{ℤ, pos, negsuc, neg_ℤ-neg_ℤ}
 use lib.ListN.{replicate}
 use Rattle.list_words.specs.Lists.{above, below, any, nonzero}
@@ -11,7 +11,7 @@ use Rattle.list_words.proofs.Tests.{or-false, never}
 use Rattle.list_words.proofs.Joining.{turned_pieces}
 use Rattle.results.specs.declared.End.{End}
 use Rattle.results.specs.Pieces.{starts, stops, pieces}
-use Rattle.vertex_table.specs.Words.{off, flip, turn, alike, some_count}
+use Rattle.vertex_table.specs.Words.{off, flip, turn, some_count}
 
 abbrev starts_of : End → List ℕ
 starts_of e = replicate (below e.count) e.vertex

@@ -1,6 +1,5 @@
 -- `crossing` meets its contract.
 use mathlib.Core.Path.{refl, sym, ap, ◌∙◌}
-use Prim.Native.Nat.{◌-◌}
 use Rattle.vertex_table.specs.Words.{flip}
 use Rattle.kept_lists.specs.Words.{rows, crossing, in_row}
 use Rattle.kept_lists.proofs.Rows.{look_here, look_on, look_end, flip_blank}

@@ -5,7 +5,6 @@ use Prim.Native.Nat.{ℕ, ◌-◌, ◌≤◌}
 use native.Mathlib.Omega.{arith}
 use lib.ListN.{length, take, drop, length-drop}
 use lib.Seq.{take_all}
-use Rattle.std.proofs.lemmas.Grind.{common_steps}
 use Rattle.housefile.specs.declared.Record.{Record}
 use Rattle.housefile.specs.Records.{decoded}
 use Rattle.housefile_reader.proofs.Walks.{walk_starts, walk_goes_on, walk_less}
@@ -29,6 +28,3 @@ loop-w-preserved c =
     rw (c.step-w.ensures, c.keep.ensures.points_after, c.keep.ensures.corners_after)
     (walk_goes_on c.args.bytes.now c.loop-w.w c.loop-w.points c.loop-w.corners c.loop-w.invariant c.loop-w-test.true c.decode-found.result
     (begun c.args.bytes.now c.loop-w.w.used _ c.loop-w.invariant.within c.decode-found.ensures))
-
-pub returns-clause-scanned : goal.returns-clause-scanned
-returns-clause-scanned c = grind (arith, common_steps)

@@ -1,6 +1,5 @@
 -- `put_times` meets its contract. The loop's invariant: what is left to put, put now, gives what the whole gives. The measure is what is left.
 use mathlib.Core.Path.{◌∙◌}
-use Prim.Native.Nat.{◌-◌}
 use borrow.Author.Rules.{rules}
 use Rattle.placed_ends.proofs.Placing.{times_step}
 use Rattle.placed_ends.proofs.put_times.Goals as goal

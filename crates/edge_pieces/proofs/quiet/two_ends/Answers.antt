@@ -1,6 +1,6 @@
 -- `two_ends` meets its contract: no piece, or one, one way or the other.
 use mathlib.Core.Path.{◌≡◌, sym, subst}
-use mathlib.Core.List.{[], ◌∷◌, List, flat_map}
+use mathlib.Core.List.{List, flat_map}
 use Prim.Native.Nat.{◌+◌, ◌≤◌}
 use borrow.Author.Rules.{rules}
 use lib.IntN.{pos, negsuc}
