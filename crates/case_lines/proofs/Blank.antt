@@ -1,6 +1,6 @@
 -- A number that equals itself is no NaN.
-use mathlib.Core.Path.{◌≡◌, subst, sym}
-use mathlib.Core.Bool.{true, false, not}
+use mathlib.Core.Path.{◌≡◌, subst}
+use mathlib.Core.Bool.{false, not}
 use lib.Dec.{T}
 use lib.Ieee.{Float, nan, inf, fin, ne, is_nan}
 

@@ -3,11 +3,19 @@
 
 ghost use Rattle.std.specs.Prelude.{◌+◌, ◌≤◌, length};
 
-use libc::STDOUT_FILENO;
 use solids::Answer;
+use std::io::{Stdout, Write};
 
-// The lines that wait to be written.
-pub type Lines = [u8; 65536];
+// The lines that wait to be written, and where they go.
+#[derive(Drop)]
+pub struct Lines {
+    pub waiting: [u8; 65536],
+    pub output: Stdout,
+}
+
+fn written(mut output: Stdout, all: &[u8]) {
+    let _ = output.write_all(all);
+}
 
 fn wide(x: u32) -> u64 {
     x as u64
@@ -17,12 +25,12 @@ fn byte(out: &mut Lines, at: usize, next: u8) -> usize
     requires { at ≤ 65536 }
     ensures { result ≤ 65536 }
 {
-    if at < out.len() {
-        out[at] = next;
+    if at < out.waiting.len() {
+        out.waiting[at] = next;
         return at + 1;
     }
-    io::write_all(STDOUT_FILENO, out);
-    out[0] = next;
+    written(out.output, &out.waiting);
+    out.waiting[0] = next;
     1
 }
 
@@ -212,7 +220,7 @@ pub fn stop(out: &mut Lines, at: usize)
     requires { at ≤ 65536 }
 {
     let end = text(out, at, b".\n");
-    io::write_all(STDOUT_FILENO, case_fronts::bytes(out, end));
+    written(out.output, case_fronts::bytes(&out.waiting, end));
 }
 
 // The answer to a request that cannot be read.

@@ -1,8 +1,8 @@
-// The words of standard input, one at a time. Bytes come through a buffer that the caller lends; the letters of the word at hand stand in a second list.
+// The words of standard input, one at a time. Bytes come through a buffer that the caller lends; the letters of the word at hand stand in a second list. A read that fails counts as the end of the input.
 ghost use Rattle.std.specs.Prelude.{◌≡◌, ◌+◌, ◌≤◌};
 ghost use Rattle.case_words.specs.Words.{Sound};
 
-use libc::STDIN_FILENO;
+use std::io::{Read, Stdin};
 
 pub type Buffer = [u8; 65536];
 
@@ -12,6 +12,8 @@ pub type Letters = [u8; 131072];
 // Where reading stands.
 #[derive(Clone, Copy)]
 pub struct Reader {
+    // Where bytes come from.
+    pub input: Stdin,
     // The buffer holds bytes up to end, and the next one is at at. A proved loop has to end, and nothing says that the input does: so bytes are counted down, from a number that no run uses up, and left of them may still come.
     pub at: usize,
     pub end: usize,
@@ -28,10 +30,11 @@ pub struct Reader {
 }
 
 // Before the first byte.
-pub fn start() -> Reader
+pub fn start(input: Stdin) -> Reader
     ensures { Sound result }
 {
     Reader {
+        input,
         at: 0,
         end: 0,
         left: usize::MAX,
@@ -44,6 +47,16 @@ pub fn start() -> Reader
     }
 }
 
+// How many bytes one read puts at the start of the buffer: none where it fails.
+fn arrived(mut input: Stdin, buffer: &mut Buffer) -> usize
+    ensures { result ≤ 65536 }
+{
+    match input.read(buffer) {
+        Ok(n) => n,
+        Err(_) => 0,
+    }
+}
+
 // Some byte is at hand afterwards, unless the input has ended.
 fn filled(buffer: &mut Buffer, mut r: Reader) -> Reader
     requires { Sound r }
@@ -52,9 +65,9 @@ fn filled(buffer: &mut Buffer, mut r: Reader) -> Reader
     if r.at < r.end {
         return r;
     }
-    let got = libc::read(STDIN_FILENO, buffer);
+    let got = arrived(r.input, buffer);
     r.at = 0;
-    r.end = case_fronts::least(io::count(got, buffer), r.left);
+    r.end = case_fronts::least(got, r.left);
     r
 }
 

@@ -11,6 +11,7 @@ use case_requests::requests;
 use case_requests::requests::Kind;
 use case_words::input;
 use case_words::input::{Buffer, Letters, Reader};
+use std::io::Stdin;
 
 // The request `solid`.
 fn solid(buffer: &mut Buffer, letters: &mut Letters, out: &mut Lines, r: Reader) -> Reader
@@ -64,8 +65,8 @@ fn answered(buffer: &mut Buffer, letters: &mut Letters, out: &mut Lines, r: Read
 }
 
 // Nothing says that the input ends. So requests are counted down, from a number that no run uses up.
-fn serve(buffer: &mut Buffer, letters: &mut Letters, out: &mut Lines) {
-    let mut r = input::start();
+fn serve(from: Stdin, buffer: &mut Buffer, letters: &mut Letters, out: &mut Lines) {
+    let mut r = input::start(from);
     let mut turns = u64::MAX;
     while turns > 0 {
         r = input::looked(buffer, letters, r);
@@ -77,9 +78,12 @@ fn serve(buffer: &mut Buffer, letters: &mut Letters, out: &mut Lines) {
     }
 }
 
-fn main() {
+fn main(rt: HostRuntime) {
     let mut buffer = [0u8; 65536];
     let mut letters = [0u8; 131072];
-    let mut out = [0u8; 65536];
-    serve(&mut buffer, &mut letters, &mut out);
+    let mut out = Lines {
+        waiting: [0u8; 65536],
+        output: rt.stdout(),
+    };
+    serve(rt.stdin(), &mut buffer, &mut letters, &mut out);
 }

@@ -1,5 +1,5 @@
-use lib.ListN.{length}
-use Prim.Native.Nat.{◌≤◌, ◌-◌, ◌/◌}
+-- `facets` meets its contract: i counts up to what the lists have.
+use Rattle.std.proofs.Common.{length, ◌-◌, ◌/◌, ◌≤◌}
 use Rattle.case_lines.proofs.facets.Given as goal
 
 abbrev pub invariant-loop-i : goal.invariant-loop-i

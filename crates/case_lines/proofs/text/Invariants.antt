@@ -1,5 +1,5 @@
-use lib.ListN.{length}
-use Prim.Native.Nat.{◌≤◌, ◌-◌}
+-- `text` meets its contract: i counts up to the length.
+use Rattle.std.proofs.Common.{length, ◌-◌, ◌≤◌}
 use Rattle.case_lines.proofs.text.Given as goal
 
 abbrev pub invariant-loop-i : goal.invariant-loop-i

@@ -1,5 +1,5 @@
-use lib.ListN.{length}
-use Prim.Native.Nat.{◌≤◌, ◌-◌, ◌/◌}
+-- `vertices` meets its contract: i counts up to what the lists have.
+use Rattle.std.proofs.Common.{length, ◌-◌, ◌/◌, ◌≤◌}
 use Rattle.case_lines.proofs.vertices.Given as goal
 
 abbrev pub invariant-loop-i : goal.invariant-loop-i

@@ -1,5 +1,6 @@
+-- `resumed` meets its contract: each word passed leaves fewer bytes.
+use Rattle.std.proofs.Common.{◌+◌}
 use Rattle.case_words.specs.Words.{Sound}
-use Prim.Native.Nat.{◌+◌}
 use Rattle.case_requests.proofs.requests.resumed.Given as goal
 
 abbrev pub invariant-loop-q : goal.invariant-loop-q

@@ -1,5 +1,5 @@
-use Prim.Native.Nat.{◌≤◌, ◌-◌}
-use lib.ListN.{length}
+-- `number_of` ends, and reads within the word.
+use Rattle.std.proofs.Common.{length, ◌-◌, ◌≤◌}
 use Rattle.case_words.proofs.digits.number_of.Given as goal
 
 abbrev pub invariant-loop-i : goal.invariant-loop-i

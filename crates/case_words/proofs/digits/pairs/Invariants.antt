@@ -1,10 +1,9 @@
-use mathlib.Core.Path.{◌≡◌}
-use lib.ListN.{length}
-use Prim.Native.Nat.{◌≤◌, ◌-◌}
+-- `pairs` is safe and ends: i counts up to n.
+use Rattle.std.proofs.Common.{◌-◌, ◌≤◌}
 use Rattle.case_words.proofs.digits.pairs.Given as goal
 
 abbrev pub invariant-loop-i : goal.invariant-loop-i
-invariant-loop-i l = (l.i ≤ l.n) × (length l.bytes ≡ length l.initial.bytes)
+invariant-loop-i l = l.i ≤ l.n
 
 abbrev pub decreases-loop-i : goal.decreases-loop-i
 decreases-loop-i l = l.n - l.i

@@ -1,5 +1,6 @@
+-- `at_word` meets its contract: each byte of white space costs one of the bytes that are left.
+use Rattle.std.proofs.Common.{◌≤◌}
 use Rattle.case_words.specs.Words.{Sound}
-use Prim.Native.Nat.{◌≤◌}
 use Rattle.case_words.proofs.input.at_word.Given as goal
 
 abbrev pub invariant-loop-q : goal.invariant-loop-q

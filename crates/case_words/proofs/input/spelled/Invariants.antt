@@ -1,5 +1,6 @@
+-- `spelled` meets its contract: each letter costs one of the bytes that are left.
+use Rattle.std.proofs.Common.{◌+◌, ◌≤◌}
 use Rattle.case_words.specs.Words.{Sound}
-use Prim.Native.Nat.{◌+◌, ◌≤◌}
 use Rattle.case_words.proofs.input.spelled.Given as goal
 
 abbrev pub invariant-loop-q : goal.invariant-loop-q
