@@ -22,6 +22,7 @@ fn check_closure(corners: &[u32]) -> Verdict
 }
 
 // Checks 1 and 2, which look at lengths alone.
+#[tactic(auto, unfolding(solids::specs::Refusals::in_order, solids::specs::Admission::check_lengths, solids::specs::Admission::check_sizes, solids::specs::Admission::uneven, solids::specs::Admission::too_many))]
 fn check_lists(points: &[f64], corners: &[u32]) -> Verdict
     ensures { result ≡ in_order (Ad.check_lengths (So.lent points.entry corners.entry) ∷ Ad.check_sizes (So.lent points.entry corners.entry) ∷ []) }
 {
