@@ -9,7 +9,7 @@ ghost use Rattle.solids.specs.Admission as Ad;
 ghost use Rattle.solids.specs.Words as Sw;
 
 use points::Point;
-use solids::{Answer, Verdict};
+use solids::{Refusal, Verdict};
 
 // Check 6 on facets whose corners are all there.
 fn check_closure(corners: &[u32]) -> Verdict
@@ -27,40 +27,28 @@ fn check_lists(points: &[f64], corners: &[u32]) -> Verdict
     ensures { result ≡ in_order (Ad.check_lengths (So.lent points.entry corners.entry) ∷ Ad.check_sizes (So.lent points.entry corners.entry) ∷ []) }
 {
     if points.len() % 3 != 0 {
-        return Verdict::Refused(Answer::UNEVEN);
+        return Err(Refusal::Uneven.on_solid(0));
     }
     if corners.len() % 3 != 0 {
-        return Verdict::Refused(Answer::UNEVEN);
+        return Err(Refusal::Uneven.on_solid(0));
     }
     if points.len() / 3 > 128 {
-        return Verdict::Refused(Answer::TOO_MANY);
+        return Err(Refusal::TooMany.on_solid(0));
     }
     if corners.len() / 3 > 256 {
-        return Verdict::Refused(Answer::TOO_MANY);
+        return Err(Refusal::TooMany.on_solid(0));
     }
-    Verdict::Accepted
+    Ok(())
 }
 
 // Admission: accepted, or refused by the first check that refuses.
 pub fn admit(points: &[f64], corners: &[u32]) -> Verdict
     ensures { Ad.Judged (So.lent points.entry corners.entry) result }
 {
-    let of_lists = check_lists(points, corners);
-    if let Verdict::Refused(answer) = of_lists {
-        return Verdict::Refused(answer);
-    }
-    let of_blanks = faults::check_points(true, points);
-    if let Verdict::Refused(answer) = of_blanks {
-        return Verdict::Refused(answer);
-    }
-    let of_limit = faults::check_points(false, points);
-    if let Verdict::Refused(answer) = of_limit {
-        return Verdict::Refused(answer);
-    }
-    let of_corners = faults::check_corners(points, corners);
-    if let Verdict::Refused(answer) = of_corners {
-        return Verdict::Refused(answer);
-    }
+    check_lists(points, corners)?;
+    faults::check_points(true, points)?;
+    faults::check_points(false, points)?;
+    faults::check_corners(points, corners)?;
     check_closure(corners)
 }
 
@@ -69,10 +57,10 @@ pub fn admit_point(v: Point) -> Verdict
     ensures { Ad.AdmitPoint v result }
 {
     if faults::bad_point(true, v) {
-        return Verdict::Refused(Answer::on_point(3));
+        return Err(Refusal::Blank.on_point());
     }
     if faults::bad_point(false, v) {
-        return Verdict::Refused(Answer::on_point(4));
+        return Err(Refusal::OutOfRange.on_point());
     }
-    Verdict::Accepted
+    Ok(())
 }

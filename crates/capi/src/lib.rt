@@ -1,4 +1,5 @@
 // The library's public calls for C, Rust and Python: include/ozoravesh.h declares them. Each promises what the call that it passes on promises.
+// C knows each call by its name and passes numbers and lists, so calls that are alike stay apart, and their lists parameters.
 #![tactic(auto)]
 
 ghost use Rattle.solids.specs.Solids as So;
@@ -40,7 +41,7 @@ pub extern "C" fn ozoravesh_operate(
 pub extern "C" fn ozoravesh_admit(points: &[f64], corners: &[u32]) -> Answer
     ensures { Ad.Admit (So.lent points.entry corners.entry) result }
 {
-    admission::admit(points, corners).answer()
+    Answer::from(admission::admit(points, corners))
 }
 
 // How often the solid, as A, contains the point x, y, z.

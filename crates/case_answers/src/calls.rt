@@ -1,34 +1,36 @@
 // The calls that answer these requests, one small function each: it makes the call and prints the answer.
 use case_lines::Lines;
+use case_requests::common::Held;
 use points::Point;
-use solids::Counted;
+use solids::Answer;
 
-fn counted(as_b: bool, v: Point, points: &[f64], corners: &[u32]) -> Counted {
-    if as_b {
-        containment::count_as_b(v, points, corners)
-    } else {
-        containment::count_as_a(v, points, corners)
-    }
+// Which solid a request takes its own as.
+#[derive(Clone, Copy)]
+pub enum Side {
+    A,
+    B,
 }
 
-pub fn count(out: &mut Lines, as_b: bool, v: Point, points: &[f64], corners: &[u32]) {
-    let c = counted(as_b, v, points, corners);
-    let at = case_lines::begun(out, c.answer);
-    let end = case_lines::signed(out, at, c.count);
-    let line = case_lines::text(out, end, b"\n");
-    case_lines::stop(out, line);
+pub fn count(out: &mut Lines, side: Side, v: Point, solid: Held) {
+    let counted = match side {
+        Side::A => containment::count_as_a(v, solid.points, solid.corners),
+        Side::B => containment::count_as_b(v, solid.points, solid.corners),
+    };
+    out.begin(counted.answer);
+    writeln!(out, " {}", counted.count);
+    out.stop();
 }
 
-pub fn admit(out: &mut Lines, points: &[f64], corners: &[u32]) {
-    let at = case_lines::begun(out, admission::admit(points, corners).answer());
-    let line = case_lines::text(out, at, b"\n");
-    case_lines::stop(out, line);
+pub fn admit(out: &mut Lines, solid: Held) {
+    out.begin(Answer::from(admission::admit(solid.points, solid.corners)));
+    writeln!(out);
+    out.stop();
 }
 
-pub fn shown<'a>(out: &mut Lines, ac: &'a [u32], bc: &'a [u32], origin: u32) {
-    let part = origins::shown(ac, bc, origin as usize);
-    let at = case_lines::number(out, 0, part.len() as u64);
-    let end = case_lines::listed(out, at, part);
-    let line = case_lines::text(out, end, b"\n");
-    case_lines::stop(out, line);
+pub fn shown<'a>(out: &mut Lines, ac: &'a [u32], bc: &'a [u32], origin: usize) {
+    let part = origins::shown(ac, bc, origin);
+    write!(out, "{}", part.len());
+    out.listed(part);
+    writeln!(out);
+    out.stop();
 }

@@ -1,7 +1,8 @@
 // The calls that answer these requests, one small function each: it makes the call and prints the answer.
-ghost use Rattle.std.specs.Prelude.{◌≤◌};
-
+// What the two calls answer has fields of other names, so they stay parameters.
+use case_fronts::front;
 use case_lines::Lines;
+use case_requests::common::Held;
 use solids::Answer;
 
 // The answer, three numbers and a solid. The third number is the bytes that were used, or the unit.
@@ -10,18 +11,14 @@ fn solid(
     answer: Answer,
     vertices: usize,
     facets: usize,
-    last: u64,
-    points: &[f64],
-    corners: &[u32],
+    last: usize,
+    lists: Held,
 ) {
-    let begun = case_lines::begun(out, answer);
-    let first = case_lines::spaced(out, begun, vertices as u64);
-    let second = case_lines::spaced(out, first, facets as u64);
-    let third = case_lines::spaced(out, second, last);
-    let line = case_lines::text(out, third, b"\n");
-    let at = case_lines::vertices(out, line, points, vertices);
-    let end = case_lines::facets(out, at, corners, facets);
-    case_lines::stop(out, end);
+    out.begin(answer);
+    writeln!(out, " {vertices} {facets} {last}");
+    out.vertices(lists.points, vertices);
+    out.facets(lists.corners, facets);
+    out.stop();
 }
 
 pub fn read(out: &mut Lines, bytes: &[u8], points: &mut [f64], corners: &mut [u32]) {
@@ -31,9 +28,8 @@ pub fn read(out: &mut Lines, bytes: &[u8], points: &mut [f64], corners: &mut [u3
         r.answer,
         r.vertices,
         r.facets,
-        r.used as u64,
-        points,
-        corners,
+        r.used,
+        Held { points, corners },
     );
 }
 
@@ -44,31 +40,20 @@ pub fn boxed(out: &mut Lines, row: &[u8], points: &mut [f64], corners: &mut [u32
         b.answer,
         b.vertices,
         b.facets,
-        b.unit as u64,
-        points,
-        corners,
+        usize::from(b.unit),
+        Held { points, corners },
     );
 }
 
-// The file, a line of hex digits; none on a refusal.
-fn line_of_file(out: &mut Lines, at: usize, file: &[u8]) -> usize
-    requires { at ≤ 65536 }
-    ensures { result ≤ 65536 }
-{
-    let begun = case_lines::text(out, at, b"b ");
-    let end = case_lines::pairs(out, begun, file);
-    case_lines::text(out, end, b"\n")
-}
-
-pub fn write(out: &mut Lines, points: &[f64], corners: &[u32], bytes: &mut [u8]) {
-    let w = housefile_writer::write(points, corners, bytes);
-    let answer = case_lines::begun(out, w.answer);
-    let used = case_lines::spaced(out, answer, w.used as u64);
-    let line = case_lines::text(out, used, b"\n");
-    if w.answer.number != 0 {
-        case_lines::stop(out, line);
-        return;
+pub fn write(out: &mut Lines, solid: Held, bytes: &mut [u8]) {
+    let w = housefile_writer::write(solid.points, solid.corners, bytes);
+    out.begin(w.answer);
+    writeln!(out, " {}", w.used);
+    // The file, a line of hex digits; none on a refusal.
+    if w.answer.number == 0 {
+        write!(out, "b ");
+        out.pairs(front(bytes, w.used));
+        writeln!(out);
     }
-    let end = line_of_file(out, line, case_fronts::bytes(bytes, w.used));
-    case_lines::stop(out, end);
+    out.stop();
 }

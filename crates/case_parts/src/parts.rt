@@ -1,220 +1,111 @@
-// The parts that requests are made of: fixed words, numbers, lists and bytes. A part that cannot be read leaves its word at hand and the reader not good, and then the parts behind it read nothing.
-ghost use Rattle.std.specs.Prelude.{◌≡◌, ◌≤◌, length};
-ghost use Rattle.case_words.specs.Words.{Same, Sound};
+// The parts that requests are made of: fixed words, numbers, lists and bytes. A part that cannot be read leaves its word at hand.
+ghost use Rattle.std.specs.Prelude.{◌≡◌, ◌≤◌, IfOk, IsSome, OnErr, OnOk, length, List, ℕ};
+ghost use Rattle.std.specs.Fn.{FnOnceReturnsAt};
 
-use case_fronts::{Coordinates, Corners};
-use case_words::input::{Buffer, Letters, Reader};
-use case_words::{digits, input};
+use case_fronts::front_mut;
+use case_words::digits;
+use case_words::input::Words;
 use numbers::patterns;
 
-fn failed(mut r: Reader) -> Reader
-    ensures { Same r result × (result.number ≡ 0) }
-{
-    r.good = false;
-    r.number = 0;
-    r
-}
+// The word at hand is not the one that a part has to begin with, or stands for nothing that the part may be.
+#[derive(Clone, Copy, Debug, PartialEq, Eq)]
+pub struct Unread;
 
-// The word at hand is understood.
-fn understood(mut r: Reader, number: usize) -> Reader
-    ensures { Same r result × (result.number ≡ number) }
+// What the word at hand stands for, as `of` reads its letters. A word that stands for nothing stays at hand.
+pub fn meaning<T: Drop, F: FnOnce(&[u8]) -> Option<T>>(
+    words: &mut Words,
+    of: F,
+) -> Result<T, Unread>
+    requires { F.IsAlwaysCallable of }
+    ensures understood { OnOk result (words.new.word ≡ None) }
+    ensures at_hand { OnErr result (IsSome words.new.word) }
+    ensures value { IfOk result (λ t. (w : List ℕ) × FnOnceReturnsAt F.FnOnce of w (Some t)) }
 {
-    r.held = false;
-    r.number = number;
-    r
+    words.look();
+    let value = of(words.letters()).ok_or(Unread)?;
+    words.understood();
+    Ok(value)
 }
 
 // A fixed word.
-pub fn word(buffer: &mut Buffer, letters: &mut Letters, r: Reader, name: &[u8]) -> Reader
-    requires { Sound r }
-    ensures { Sound result }
+pub fn word(words: &mut Words, name: &[u8]) -> Result<(), Unread>
+    ensures understood { OnOk result (words.new.word ≡ None) }
+    ensures at_hand { OnErr result (IsSome words.new.word) }
 {
-    if !r.good {
-        return r;
-    }
-    let q = input::looked(buffer, letters, r);
-    let n = q.length;
-    if check::same(case_fronts::bytes(letters, n), name) {
-        return understood(q, 0);
-    }
-    failed(q)
-}
-
-// One of two fixed words: the number is 0 for the first and 1 for the second.
-pub fn either(
-    buffer: &mut Buffer,
-    letters: &mut Letters,
-    r: Reader,
-    first: &[u8],
-    second: &[u8],
-) -> Reader
-    requires { Sound r }
-    ensures { Sound result }
-{
-    let q = input::looked(buffer, letters, r);
-    let n = q.length;
-    if check::same(case_fronts::bytes(letters, n), first) {
-        return understood(q, 0);
-    }
-    if check::same(case_fronts::bytes(letters, n), second) {
-        return understood(q, 1);
-    }
-    failed(q)
+    meaning(words, |letters| (letters == name).then_some(()))
 }
 
 // A decimal number of at most most.
-pub fn number(buffer: &mut Buffer, letters: &mut Letters, r: Reader, most: usize) -> Reader
-    requires { Sound r }
-    ensures { Sound result × (result.number ≤ most) }
+pub fn number(words: &mut Words, most: usize) -> Result<usize, Unread>
+    ensures understood { OnOk result (words.new.word ≡ None) }
+    ensures at_hand { OnErr result (IsSome words.new.word) }
+    ensures limit { IfOk result (λ n. n ≤ most) }
 {
-    if !r.good {
-        return failed(r);
-    }
-    let q = input::looked(buffer, letters, r);
-    let n = q.length;
-    let found = digits::number_of(case_fronts::bytes(letters, n), 10);
-    if !found.known {
-        return failed(q);
-    }
-    if most < found.value {
-        return failed(q);
-    }
-    understood(q, found.value)
-}
-
-// The bit pattern of an f64: a word of 16 hex digits.
-pub fn pattern(buffer: &mut Buffer, letters: &mut Letters, r: Reader) -> Reader
-    requires { Sound r }
-    ensures { Sound result }
-{
-    if !r.good {
-        return failed(r);
-    }
-    let q = input::looked(buffer, letters, r);
-    let n = q.length;
-    if n != 16 {
-        return failed(q);
-    }
-    let found = digits::number_of(case_fronts::bytes(letters, n), 16);
-    if !found.known {
-        return failed(q);
-    }
-    understood(q, found.value)
+    meaning(
+        words,
+        |letters| digits::number_of(letters, 10).filter(|n| *n <= most),
+    )
 }
 
 // A fixed word and a number of at most most.
-pub fn named(
-    buffer: &mut Buffer,
-    letters: &mut Letters,
-    r: Reader,
-    name: &[u8],
-    most: usize,
-) -> Reader
-    requires { Sound r }
-    ensures { Sound result × (result.number ≤ most) }
+pub fn named(words: &mut Words, name: &[u8], most: usize) -> Result<usize, Unread>
+    ensures { IfOk result (λ n. n ≤ most) }
 {
-    let q = word(buffer, letters, r, name);
-    number(buffer, letters, q, most)
+    word(words, name)?;
+    number(words, most)
 }
 
-fn coordinate(
-    buffer: &mut Buffer,
-    letters: &mut Letters,
-    r: Reader,
-    list: &mut Coordinates,
-    i: usize,
-) -> Reader
-    requires { Sound r }
-    ensures { Sound result }
+// The bit pattern of an f64: a word of 16 hex digits.
+pub fn coordinate(words: &mut Words) -> Result<f64, Unread>
+    ensures understood { OnOk result (words.new.word ≡ None) }
+    ensures at_hand { OnErr result (IsSome words.new.word) }
 {
-    let q = pattern(buffer, letters, r);
-    if i < list.len() {
-        list[i] = patterns::float(q.number as u64);
-    }
-    q
-}
-
-// A list of coordinates with its name and its length, which is the reader's number afterwards. What the list has no room for is read and left out.
-pub fn coordinates(
-    buffer: &mut Buffer,
-    letters: &mut Letters,
-    r: Reader,
-    name: &[u8],
-    list: &mut Coordinates,
-) -> Reader
-    requires { Sound r }
-    ensures { Sound result }
-{
-    let mut q = named(buffer, letters, r, name, usize::MAX);
-    let n = q.number;
-    let mut i = 0;
-    while i < n {
-        q = coordinate(buffer, letters, q, list, i);
-        if !q.good {
-            return q;
+    let pattern = meaning(words, |letters| {
+        if letters.len() == 16 {
+            digits::number_of(letters, 16)
+        } else {
+            None
         }
-        i += 1;
-    }
-    q.number = n;
-    q
+    })?;
+    Ok(patterns::float(pattern as u64))
 }
 
-fn corner(
-    buffer: &mut Buffer,
-    letters: &mut Letters,
-    r: Reader,
-    list: &mut Corners,
-    i: usize,
-) -> Reader
-    requires { Sound r }
-    ensures { Sound result }
+// A number of 32 bits.
+pub fn corner(words: &mut Words) -> Result<u32, Unread>
+    ensures understood { OnOk result (words.new.word ≡ None) }
+    ensures at_hand { OnErr result (IsSome words.new.word) }
 {
-    let q = number(buffer, letters, r, 4294967295);
-    if i < list.len() {
-        list[i] = q.number as u32;
-    }
-    q
+    let value = number(words, u32::MAX as usize)?;
+    Ok(value as u32)
 }
 
-// A list of corners, as coordinates.
-pub fn corners(
-    buffer: &mut Buffer,
-    letters: &mut Letters,
-    r: Reader,
+// A list with its name and its length, which is answered. What the list has no room for is read and left out.
+pub fn list<T: Copy, F: Fn(&mut Words) -> Result<T, Unread>>(
+    words: &mut Words,
     name: &[u8],
-    list: &mut Corners,
-) -> Reader
-    requires { Sound r }
-    ensures { Sound result }
+    members: &mut [T],
+    member: F,
+) -> Result<usize, Unread>
+    requires { F.IsAlwaysCallable member }
 {
-    let mut q = named(buffer, letters, r, name, usize::MAX);
-    let n = q.number;
-    let mut i = 0;
-    while i < n {
-        q = corner(buffer, letters, q, list, i);
-        if !q.good {
-            return q;
-        }
-        i += 1;
+    let n = named(words, name, usize::MAX)?;
+    for place in front_mut(members, n) {
+        *place = member(words)?;
     }
-    q.number = n;
-    q
+    for _ in members.len()..n {
+        member(words)?;
+    }
+    Ok(n)
 }
 
-// Bytes with their number, which is the reader's number afterwards. More than the list has room for are not understood.
-pub fn bytes(buffer: &mut Buffer, letters: &mut Letters, r: Reader, list: &mut [u8]) -> Reader
-    requires { Sound r }
-    ensures { Sound result × (result.number ≤ length list.old) }
+// Bytes with their number, put at the start of a list. More than the list has room for are not understood.
+pub fn bytes<'a>(words: &mut Words, list: &'a mut [u8]) -> Result<&'a [u8], Unread>
+    ensures { IfOk result (λ bytes. length bytes.now ≤ length list.old) }
 {
-    let counted = named(buffer, letters, r, b"bytes", list.len());
-    let n = counted.number;
-    if n == 0 {
-        return counted;
+    let n = named(words, b"bytes", list.len())?;
+    let bytes = front_mut(list, n);
+    if n > 0 {
+        meaning(words, |letters| digits::pairs(letters, bytes))?;
     }
-    let q = input::looked(buffer, letters, counted);
-    let size = q.length;
-    if digits::pairs(case_fronts::bytes(letters, size), list, n) {
-        return understood(q, n);
-    }
-    failed(q)
+    Ok(bytes)
 }

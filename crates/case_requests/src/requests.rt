@@ -1,8 +1,7 @@
 // Where a request begins, and what is held of its lists.
-ghost use Rattle.case_words.specs.Words.{Sound};
+ghost use Rattle.std.specs.Prelude.{◌<◌, IfSome, IsSome, IsTrue};
 
-use case_words::input;
-use case_words::input::{Buffer, Letters, Reader};
+use case_words::input::Words;
 
 #[derive(Clone, Copy)]
 pub enum Kind {
@@ -14,73 +13,41 @@ pub enum Kind {
     Write,
     Box,
     Solid,
-    Unknown,
 }
 
 // The request that a word begins.
-pub fn begun(word: &[u8]) -> Kind {
-    if check::same(word, b"op") {
-        Kind::Op
-    } else if check::same(word, b"count") {
-        Kind::Count
-    } else if check::same(word, b"admit") {
-        Kind::Admit
-    } else if check::same(word, b"shown") {
-        Kind::Shown
-    } else if check::same(word, b"read") {
-        Kind::Read
-    } else if check::same(word, b"write") {
-        Kind::Write
-    } else if check::same(word, b"box") {
-        Kind::Box
-    } else if check::same(word, b"solid") {
-        Kind::Solid
-    } else {
-        Kind::Unknown
+pub fn begun(word: &[u8]) -> Option<Kind> {
+    match word {
+        b"op" => Some(Kind::Op),
+        b"count" => Some(Kind::Count),
+        b"admit" => Some(Kind::Admit),
+        b"shown" => Some(Kind::Shown),
+        b"read" => Some(Kind::Read),
+        b"write" => Some(Kind::Write),
+        b"box" => Some(Kind::Box),
+        b"solid" => Some(Kind::Solid),
+        _ => None,
     }
 }
 
-fn begins(word: &[u8]) -> bool {
-    match begun(word) {
-        Kind::Unknown => false,
-        _ => true,
-    }
-}
-
-// Whether the word at hand is the first on its line and begins a request.
-fn opens(letters: &Letters, r: Reader) -> bool {
-    if r.first {
-        begins(case_fronts::bytes(letters, r.length))
-    } else {
-        false
-    }
-}
-
-// Past a request that cannot be read, from its word that was not understood on: at the next line that begins with a request word, or at the end of the input.
-pub fn resumed(buffer: &mut Buffer, letters: &mut Letters, r: Reader) -> Reader
-    requires { Sound r }
-    ensures { Sound result }
+// Past a request that cannot be read, from its word that was not understood on: at the next line that begins with a request word, or at the end of the
+// input.
+pub fn resume(words: &mut Words)
+    ensures at_hand { IsSome words.new.word }
+    ensures begins { IfSome words.new.word (λ w. 0 < w.length → IsTrue w.first) }
 {
-    let mut q = input::looked(buffer, letters, r);
-    while 0 < q.length {
-        if opens(letters, q) {
-            return q;
+    let mut word = words.look();
+    // No `for`: it goes on as long as the input brings words.
+    while word.length > 0 {
+        if word.first && begun(words.letters()).is_some() {
+            return;
         }
-        q = input::next_word(buffer, letters, q);
+        word = words.next();
     }
-    q
 }
 
-// How many numbers of a solid's list of n are held, in room for 8,192. Of a longer list only its length can matter, since checks 1 and 2 refuse it before any number is looked at: it is cut to a length with the same remainder by three that is still above both limits.
+// How many numbers of a solid's list of n are held, in room for 8,192. Of a longer list only its length can matter, since checks 1 and 2 refuse it
+// before any number is looked at: it is cut to a length with the same remainder by three that is still above both limits.
 pub fn held(n: usize) -> usize {
     if n <= 8192 { n } else { 8190 + n % 3 }
-}
-
-// A number that fits, as it is: the parts of a request that are 32 bits wide are read so.
-pub fn narrow(n: usize) -> u32 {
-    if n <= 4294967295 {
-        n as u32
-    } else {
-        4294967295
-    }
 }

@@ -10,8 +10,37 @@ ghost use Rattle.layouts.specs.Words as La;
 ghost use Rattle.vertex_table.specs.Words as T;
 ghost use Rattle.kept_lists.specs.Words as K;
 
-use layouts::pack;
+use layouts::{Plan, pack};
 use results::End;
+
+// The crossings that are kept of two solids: where each row of them starts, the crossings, and the half-edges that they are looked up by.
+#[derive(Clone, Copy)]
+pub struct Crossed<'a> {
+    pub plan: Plan,
+    pub first: &'a [u32],
+    pub crossed: &'a [u32],
+    pub halves: &'a [u32],
+    pub ghost named: { T.Halves halves.now plan.sizes },
+    pub ghost listed: { K.Crossings plan.sizes (K.rows first.now crossed.now plan.base) },
+}
+
+// What is kept of two solids for their result: the crossings; the inclusions and the numbers of A's vertices and then B's; which facets each edge crosses
+// and, behind them, which facets have pieces with which.
+#[derive(Clone, Copy)]
+pub struct Kept<'a> {
+    pub crossings: Crossed<'a>,
+    pub inc: &'a [i16],
+    pub num: &'a [u32],
+    pub marks: &'a [u64],
+    pub ghost numbered: { K.Vertices crossings.plan.sizes inc.now num.now },
+    pub ghost marked: { K.Edges crossings.plan.sizes (K.rows crossings.first.now crossings.crossed.now crossings.plan.base) marks.now },
+}
+
+// What stands where nothing crosses.
+pub const BLANK: End = End {
+    vertex: 0,
+    count: 0,
+};
 
 // An end, its count negated if `flip`.
 fn end_of(vertex: u32, inclusion: i32, flip: bool) -> End
@@ -51,16 +80,34 @@ pub fn crossing(first: &[u32], crossed: &[u32], base: usize, r: usize, c: usize,
     requires { (r + 1 < length first.now) × (get_or first.now (r + 1) 0 ≤ length crossed.now) × (base + length crossed.now ≤ 1048576) }
     ensures { result ≡ T.flip flip (K.crossing (K.rows first.now crossed.now base) r c) }
 {
-    let to = first[r + 1] as usize;
-    let mut k = first[r] as usize;
-    while k < to {
+    for k in first[r] as usize..first[r + 1] as usize {
         if pack::column(crossed[k]) == c {
             return at_place(crossed, base, k, flip);
         }
-        k += 1;
     }
-    End {
-        vertex: 0,
-        count: 0,
+    BLANK
+}
+
+impl Kept<'_> {
+    ghost use Rattle.composite_ends.specs.Words as Ce;
+
+    // `vertex` of what is kept.
+    pub fn vertex(&self, i: usize, flip: bool) -> End
+        requires { (i < length self.now.inc.now) × (i < length self.now.num.now) }
+        ensures { result ≡ T.flip flip (Ce.vertex_of self.now i) }
+    {
+        vertex(self.inc, self.num, i, flip)
+    }
+}
+
+impl Crossed<'_> {
+    ghost use Rattle.composite_ends.specs.Words as Ce;
+
+    // `crossing` of what is kept.
+    pub fn crossing(&self, r: usize, c: usize, flip: bool) -> End
+        requires { (r + 1 < length self.now.first.now) × (get_or self.now.first.now (r + 1) 0 ≤ length self.now.crossed.now) }
+        ensures { result ≡ T.flip flip (K.crossing (Ce.rows_of self.now) r c) }
+    {
+        crossing(self.first, self.crossed, self.plan.base, r, c, flip)
     }
 }

@@ -16,13 +16,13 @@ use Rattle.crossings.specs.declared.Edge.{Edge}
 use Rattle.crossings.specs.declared.Facet.{Facet}
 use Rattle.crossings.specs.declared.Crossing.{Crossing}
 use Rattle.crossings.specs.declared.Crossing.TheVariants.{Miss, Cross}
-use Rattle.crossings.specs.Crossings.{count, S, against, half, ve, ev, vf, fv, ee, ef, fe, lower_vf, lower_fv, lower_ee}
+use Rattle.crossings.specs.Crossings.{count, S, against, half, edge_of, ve, ev, vf, fv, ee, ef, fe, lower_vf, lower_fv, lower_ee}
 use Rattle.crossings.proofs.Each.{each_vf, each_fv, each_ee}
 use Rattle.list_words.proofs.Integers.{Bnd, bnd_add, bnd_neg}
 use Rattle.crossings.proofs.Corners.{edge_at, corner, along, one, two, three}
 use Rattle.crossings.proofs.Formulas.{count_ef, count_fe}
-use Rattle.crossing_counts.specs.declared.Slim.{Slim}
-use Rattle.crossing_counts.specs.Words.{slim, turned_if, gathered, shade, edge_of, signed, side_A, side_B}
+use Rattle.crossing_counts.specs.Values.{Slim}
+use Rattle.crossing_counts.specs.Words.{slim, turned_if, gathered, shade, signed, side_A, side_B}
 use Rattle.crossing_counts.specs.Words as Co
 use Rattle.crossing_counts.proofs.Slims.{Proper, proper_paired, proper_against, slim_against, shade_is}
 

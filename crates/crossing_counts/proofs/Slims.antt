@@ -14,8 +14,8 @@ use Rattle.points.specs.Points.{at_least, gap, placed, pair_at, point_at}
 use Rattle.crossings.specs.declared.Crossing.{Crossing}
 use Rattle.crossings.specs.declared.Crossing.TheVariants.{Miss, Cross}
 use Rattle.crossings.specs.Crossings.{points, S, against, lies, first, crossing, paired}
-use Rattle.crossing_counts.specs.declared.Slim.{Slim}
 use Rattle.crossing_counts.specs.declared.Sum.{Sum}
+use Rattle.crossing_counts.specs.Values.{Slim}
 use Rattle.crossing_counts.specs.Words.{slim, ends, turned, with, gathered, counted, shade}
 
 -- a crossing has a count that is not 0

@@ -4,14 +4,12 @@ use Rattle.std.specs.Prelude.{Bool, true, false, cond, List, [], ◌∷◌, ℤ,
 use Rattle.std.specs.Float.{binary64}
 use Rattle.std.specs.Float.Ieee.{le, sub}
 use Rattle.list_words.specs.Lists.{nonzero}
-use Rattle.points.specs.declared.Point.{Point}
 use Rattle.points.specs.declared.PointPair.{PointPair}
 use Rattle.points.specs.Points.{share, interpolated}
-use Rattle.crossings.specs.declared.Edge.{Edge}
 use Rattle.crossings.specs.declared.Crossing.{Crossing}
 use Rattle.crossings.specs.declared.Crossing.TheVariants.{Miss, Cross}
 use Rattle.crossings.specs.Crossings.{count, points}
-use Rattle.crossing_counts.specs.declared.Slim.{Slim}
+use Rattle.crossing_counts.specs.Values.{Slim}
 use Rattle.crossing_counts.specs.declared.Sum.{Sum}
 
 abbrev pub slim : Crossing → Slim
@@ -59,9 +57,6 @@ unfoldable pub shade : Sum → ℤ
 shade g = cond (nonzero g.n) (cond (reaches g) g.n (pos 0)) (pos 0)
 
 -- ---- the pairings
-abbrev pub edge_of : Bool → Point → Point → Edge
-edge_of along p q = cond along (record { start = p; end = q }) (record { start = q; end = p })
-
 abbrev pub signed : Bool → ℤ → ℤ
 signed along n = cond along n (neg_ℤ n)
 

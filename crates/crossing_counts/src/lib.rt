@@ -10,175 +10,175 @@ ghost use Rattle.crossing_counts.specs.Words as Co;
 
 use crossings::{Edge, Facet};
 use points::{Axis, Point, PointPair};
+use std::marker::Model;
 
-// A crossing's count, and y and z of its points on A and on B. A count of 0 is a miss.
+// A crossing's count, which is 1, 0 or -1, and y and z of its points on A and on B. A count of 0 is a miss: an Option would ask for a branch where
+// counts are added.
 #[derive(Clone, Copy)]
-pub struct Slim {
-    pub n: i32,
-    pub ay: f64,
-    pub by: f64,
-    pub az: f64,
-    pub bz: f64,
+struct Slim {
+    n: i32,
+    ay: f64,
+    by: f64,
+    az: f64,
+    bz: f64,
+}
+
+impl Model for Slim {
+    ghost use Rattle.std.specs.Prelude.{◌≤◌, nat_abs};
+    ghost use Rattle.crossing_counts.specs.Values as Va;
+
+    ghost Value = { Va.Slim };
+
+    ghost view = { λ c. record { n = c.n; ay = c.ay; by = c.by; az = c.az; bz = c.bz } };
+
+    ghost invariant = { λ c. nat_abs c.n ≤ 1 };
+
+    ghost inverse = { λ v. record { n = v.n; ay = v.ay; by = v.by; az = v.az; bz = v.bz } };
 }
 
 // The sum of S by y, the first plus and the first minus.
 #[derive(Clone, Copy)]
-pub struct Sum {
-    pub n: i32,
-    pub plus: Slim,
-    pub minus: Slim,
+struct Sum {
+    n: i32,
+    plus: Slim,
+    minus: Slim,
 }
 
-fn miss() -> Slim
-    ensures value { result ≡ Co.slim Miss }
-    ensures small { nat_abs result.n ≤ 1 }
-{
-    Slim {
-        n: 0,
-        ay: 0.0,
-        by: 0.0,
-        az: 0.0,
-        bz: 0.0,
+impl Slim {
+    fn miss() -> Slim
+        ensures { result ≡ Co.slim Miss }
+    {
+        Slim {
+            n: 0,
+            ay: 0.0,
+            by: 0.0,
+            az: 0.0,
+            bz: 0.0,
+        }
+    }
+
+    #[tactic(auto, unfolding(points::specs::Points::placed, points::specs::Points::pair_at, points::specs::Points::point_at))]
+    fn placed(n: i32, plus: PointPair, minus: PointPair) -> Slim
+        requires { nat_abs n ≤ 1 }
+        ensures { result ≡ Co.slim (Cross n (P.placed Axis.X plus minus)) }
+    {
+        let t = points::share(points::gap(Axis::X, plus), points::gap(Axis::X, minus));
+        Slim {
+            n,
+            ay: points::interpolated(t, plus.a.y, minus.a.y),
+            by: points::interpolated(t, plus.b.y, minus.b.y),
+            az: points::interpolated(t, plus.a.z, minus.a.z),
+            bz: points::interpolated(t, plus.b.z, minus.b.z),
+        }
+    }
+
+    fn turned_if(self, t: bool) -> Slim
+        ensures { result ≡ Co.turned_if t self }
+    {
+        if t { Slim { n: -self.n, ..self } } else { self }
+    }
+
+    // What a pair adds to the sum of S by y. It takes no branch in the compiled code: which way the comparison goes is as good as random.
+    fn counted(self) -> i32
+        ensures value { result ≡ Co.counted self }
+        ensures small { nat_abs result ≤ 1 }
+    {
+        if self.ay <= self.by { self.n } else { 0 }
+    }
+
+    // What it adds turned or not.
+    fn counted_if(self, t: bool) -> i32
+        ensures value { result ≡ Co.counted (Co.turned_if t self) }
+        ensures small { nat_abs result ≤ 1 }
+    {
+        let n = self.counted();
+        if t { -n } else { n }
     }
 }
 
-#[tactic(auto, unfolding(points::specs::Points::placed, points::specs::Points::pair_at, points::specs::Points::point_at))]
-fn placed(n: i32, plus: PointPair, minus: PointPair) -> Slim
-    requires { nat_abs n ≤ 1 }
-    ensures value { result ≡ Co.slim (Cross n (P.placed Axis.X plus minus)) }
-    ensures small { nat_abs result.n ≤ 1 }
-{
-    let t = points::share(points::gap(Axis::X, plus), points::gap(Axis::X, minus));
-    Slim {
-        n,
-        ay: points::interpolated(t, plus.a.y, minus.a.y),
-        by: points::interpolated(t, plus.b.y, minus.b.y),
-        az: points::interpolated(t, plus.a.z, minus.a.z),
-        bz: points::interpolated(t, plus.b.z, minus.b.z),
+impl Sum {
+    fn nothing() -> Sum
+        ensures value { result ≡ Co.nothing }
+        ensures small { nat_abs result.n ≤ 0 }
+    {
+        let none = Slim::miss();
+        Sum {
+            n: 0,
+            plus: none,
+            minus: none,
+        }
+    }
+
+    #[tactic(auto, unfolding(crate::specs::Words::with))]
+    fn with(self, c: Slim) -> Sum
+        requires { nat_abs self.n ≤ 8 }
+        ensures value { result ≡ Co.with c self }
+        ensures small { nat_abs result.n ≤ nat_abs self.n + 1 }
+    {
+        if c.n == 0 {
+            self
+        } else if c.ay <= c.by {
+            Sum {
+                n: c.n + self.n,
+                plus: c,
+                ..self
+            }
+        } else {
+            Sum { minus: c, ..self }
+        }
+    }
+
+    // S by z.
+    #[tactic(auto, unfolding(crate::specs::Words::shade))]
+    fn shade(self) -> i32
+        ensures value { result ≡ Co.shade self }
+        ensures small { nat_abs result ≤ nat_abs self.n }
+    {
+        if self.n == 0 {
+            return 0;
+        }
+        let p = self.plus;
+        let m = self.minus;
+        let t = points::share(p.by - p.ay, m.by - m.ay);
+        if points::interpolated(t, p.az, m.az) <= points::interpolated(t, p.bz, m.bz) {
+            self.n
+        } else {
+            0
+        }
     }
 }
 
 // A vertex with an edge, from its pairs with the edge's start and end.
 fn level(rising: bool, start: PointPair, end: PointPair) -> Slim
-    ensures value { result ≡ Co.slim (C.paired Axis.X (Co.ends rising start end)) }
-    ensures small { nat_abs result.n ≤ 1 }
+    ensures { result ≡ Co.slim (C.paired Axis.X (Co.ends rising start end)) }
 {
-    if points::at_least(Axis::X, start) {
-        if points::at_least(Axis::X, end) {
-            return miss();
-        }
-        if rising {
-            return placed(-1, start, end);
-        }
-        return placed(1, start, end);
+    let up = if rising { 1 } else { -1 };
+    match (
+        points::at_least(Axis::X, start),
+        points::at_least(Axis::X, end),
+    ) {
+        (true, false) => Slim::placed(-up, start, end),
+        (false, true) => Slim::placed(up, end, start),
+        _ => Slim::miss(),
     }
-    if points::at_least(Axis::X, end) {
-        if rising {
-            return placed(1, end, start);
-        }
-        return placed(-1, end, start);
-    }
-    miss()
 }
 
 #[tactic(auto, unfolding(crossings::specs::Crossings::ve))]
 fn ve(v: Point, e: Edge) -> Slim
-    ensures value { result ≡ Co.slim (C.ve v e) }
-    ensures small { nat_abs result.n ≤ 1 }
+    ensures { result ≡ Co.slim (C.ve v e) }
 {
-    let from = e.start;
-    let to = e.end;
-    let start = PointPair { a: v, b: from };
-    let end = PointPair { a: v, b: to };
+    let start = PointPair { a: v, b: e.start };
+    let end = PointPair { a: v, b: e.end };
     level(true, start, end)
 }
 
 #[tactic(auto, unfolding(crossings::specs::Crossings::ev))]
 fn ev(e: Edge, v: Point) -> Slim
-    ensures value { result ≡ Co.slim (C.ev e v) }
-    ensures small { nat_abs result.n ≤ 1 }
+    ensures { result ≡ Co.slim (C.ev e v) }
 {
-    let from = e.start;
-    let to = e.end;
-    let start = PointPair { a: from, b: v };
-    let end = PointPair { a: to, b: v };
+    let start = PointPair { a: e.start, b: v };
+    let end = PointPair { a: e.end, b: v };
     level(false, start, end)
-}
-
-fn turned_if(t: bool, c: Slim) -> Slim
-    requires { nat_abs c.n ≤ 1 }
-    ensures value { result ≡ Co.turned_if t c }
-    ensures small { nat_abs result.n ≤ 1 }
-{
-    if t {
-        Slim {
-            n: 0 - c.n,
-            ay: c.ay,
-            by: c.by,
-            az: c.az,
-            bz: c.bz,
-        }
-    } else {
-        c
-    }
-}
-
-fn nothing() -> Sum
-    ensures value { result ≡ Co.nothing }
-    ensures small { nat_abs result.n ≤ 0 }
-{
-    let none = miss();
-    Sum {
-        n: 0,
-        plus: none,
-        minus: none,
-    }
-}
-
-#[tactic(auto, unfolding(crate::specs::Words::with))]
-fn with(g: Sum, c: Slim) -> Sum
-    requires { (nat_abs c.n ≤ 1) × (nat_abs g.n ≤ 8) }
-    ensures value { result ≡ Co.with c g }
-    ensures small { nat_abs result.n ≤ nat_abs g.n + 1 }
-{
-    let n = c.n;
-    if n == 0 {
-        return g;
-    }
-    let plus = g.plus;
-    let minus = g.minus;
-    if c.ay <= c.by {
-        Sum {
-            n: n + g.n,
-            plus: c,
-            minus,
-        }
-    } else {
-        Sum {
-            n: g.n,
-            plus,
-            minus: c,
-        }
-    }
-}
-
-// What a pair adds to the sum of S by y. It takes no branch in the compiled code: which way the comparison goes is as good as random.
-fn counted(c: Slim) -> i32
-    requires { nat_abs c.n ≤ 1 }
-    ensures value { result ≡ Co.counted c }
-    ensures small { nat_abs result ≤ 1 }
-{
-    if c.ay <= c.by { c.n } else { 0 }
-}
-
-// What it adds turned or not.
-fn counted_if(t: bool, c: Slim) -> i32
-    requires { nat_abs c.n ≤ 1 }
-    ensures value { result ≡ Co.counted (Co.turned_if t c) }
-    ensures small { nat_abs result ≤ 1 }
-{
-    let n = counted(c);
-    if t { 0 - n } else { n }
 }
 
 fn added(a: i32, b: i32, c: i32, d: i32) -> i32
@@ -188,45 +188,24 @@ fn added(a: i32, b: i32, c: i32, d: i32) -> i32
     a + (b + (c + d))
 }
 
-// S by z.
-#[tactic(auto, unfolding(crate::specs::Words::shade))]
-fn shade(g: Sum) -> i32
-    ensures value { result ≡ Co.shade g }
-    ensures small { nat_abs result ≤ nat_abs g.n }
-{
-    let n = g.n;
-    if n == 0 {
-        return 0;
-    }
-    let p = g.plus;
-    let m = g.minus;
-    let t = points::share(p.by - p.ay, m.by - m.ay);
-    if points::interpolated(t, p.az, m.az) <= points::interpolated(t, p.bz, m.bz) {
-        n
-    } else {
-        0
-    }
-}
-
-// S by z of a vertex with a facet, from the vertex with the facet's three edges, each turned or not.
+// S by z of a vertex with a facet, from the vertex with the facet's three edges, each turned or not. The six are no struct: lent as one, they made each
+// count take a fifth longer.
 #[tactic(auto, unfolding(crate::specs::Words::gathered, crate::specs::Words::three))]
 fn gather_three(tx: bool, x: Slim, ty: bool, y: Slim, tz: bool, z: Slim) -> i32
-    requires { (nat_abs x.n ≤ 1) × (nat_abs y.n ≤ 1) × (nat_abs z.n ≤ 1) }
     ensures value { result ≡ Co.three tx x ty y tz z }
     ensures small { nat_abs result ≤ 4 }
 {
-    let last = with(nothing(), turned_if(tz, z));
-    let two = with(last, turned_if(ty, y));
-    shade(with(two, turned_if(tx, x)))
+    let last = Sum::nothing().with(z.turned_if(tz));
+    let two = last.with(y.turned_if(ty));
+    two.with(x.turned_if(tx)).shade()
 }
 
 // Nearly always the sum of S by y is 0, and then nobody asks which is plus and which is minus.
 fn three(tx: bool, x: Slim, ty: bool, y: Slim, tz: bool, z: Slim) -> i32
-    requires { (nat_abs x.n ≤ 1) × (nat_abs y.n ≤ 1) × (nat_abs z.n ≤ 1) }
     ensures value { result ≡ Co.three tx x ty y tz z }
     ensures small { nat_abs result ≤ 4 }
 {
-    let n = added(counted_if(tx, x), counted_if(ty, y), counted_if(tz, z), 0);
+    let n = added(x.counted_if(tx), y.counted_if(ty), z.counted_if(tz), 0);
     if n == 0 {
         return 0;
     }
@@ -236,26 +215,24 @@ fn three(tx: bool, x: Slim, ty: bool, y: Slim, tz: bool, z: Slim) -> i32
 // S by z of two edges, from A's start and end with B's edge and from A's edge with B's start and end.
 #[tactic(auto, unfolding(crate::specs::Words::gathered, crate::specs::Words::four))]
 fn gather_four(s: Slim, t: Slim, u: Slim, v: Slim) -> i32
-    requires { (nat_abs s.n ≤ 1) × (nat_abs t.n ≤ 1) × (nat_abs u.n ≤ 1) × (nat_abs v.n ≤ 1) }
     ensures value { result ≡ Co.four s t u v }
     ensures small { nat_abs result ≤ 4 }
 {
-    let last = with(nothing(), v);
-    let two = with(last, turned_if(true, u));
-    let all = with(two, t);
-    shade(with(all, turned_if(true, s)))
+    let last = Sum::nothing().with(v);
+    let two = last.with(u.turned_if(true));
+    let three = two.with(t);
+    three.with(s.turned_if(true)).shade()
 }
 
 fn four(s: Slim, t: Slim, u: Slim, v: Slim) -> i32
-    requires { (nat_abs s.n ≤ 1) × (nat_abs t.n ≤ 1) × (nat_abs u.n ≤ 1) × (nat_abs v.n ≤ 1) }
     ensures value { result ≡ Co.four s t u v }
     ensures small { nat_abs result ≤ 4 }
 {
     let n = added(
-        counted_if(true, s),
-        counted(t),
-        counted_if(true, u),
-        counted(v),
+        s.counted_if(true),
+        t.counted(),
+        u.counted_if(true),
+        v.counted(),
     );
     if n == 0 {
         return 0;
@@ -263,39 +240,28 @@ fn four(s: Slim, t: Slim, u: Slim, v: Slim) -> i32
     gather_four(s, t, u, v)
 }
 
-// S by z of A's edge with a half-edge of B, from `from` to `to`.
+// S by z of A's edge with a half-edge of B, from `from` to `to`. A half-edge of A has a function of its own below, since the order of the four is all
+// that the two are.
 fn side_b(along: bool, s: Slim, t: Slim, from: Slim, to: Slim) -> i32
-    requires { (nat_abs s.n ≤ 1) × (nat_abs t.n ≤ 1) × (nat_abs from.n ≤ 1) × (nat_abs to.n ≤ 1) }
     ensures value { result ≡ Co.side_B along s t from to }
     ensures small { nat_abs result ≤ 4 }
 {
     if along {
         four(s, t, from, to)
     } else {
-        0 - four(s, t, to, from)
+        -four(s, t, to, from)
     }
 }
 
 // S by z of a half-edge of A, from `from` to `to`, with B's edge.
 fn side_a(along: bool, from: Slim, to: Slim, s: Slim, t: Slim) -> i32
-    requires { (nat_abs from.n ≤ 1) × (nat_abs to.n ≤ 1) × (nat_abs s.n ≤ 1) × (nat_abs t.n ≤ 1) }
     ensures value { result ≡ Co.side_A along from to s t }
     ensures small { nat_abs result ≤ 4 }
 {
     if along {
         four(from, to, s, t)
     } else {
-        0 - four(to, from, s, t)
-    }
-}
-
-fn edge_of(along: bool, p: Point, q: Point) -> Edge
-    ensures { result ≡ Co.edge_of along p q }
-{
-    if along {
-        Edge { start: p, end: q }
-    } else {
-        Edge { start: q, end: p }
+        -four(to, from, s, t)
     }
 }
 
@@ -306,14 +272,17 @@ fn total(a: i32, b: i32, x: i32, y: i32, z: i32) -> i32
     a - b - (x + (y + z))
 }
 
+// From here on A's and B's parts change places in each second function, as in the document, which has a formula for each: order and signs are all
+// that differs.
+
 // S(vA,fB)
 pub fn vf_s(v: Point, f: Facet) -> i32
     ensures value { result ≡ C.S Axis.Z (C.vf v f) }
     ensures small { nat_abs result ≤ 1 }
 {
-    let pq = ve(v, edge_of(f.pq, f.p, f.q));
-    let qr = ve(v, edge_of(f.qr, f.q, f.r));
-    let rp = ve(v, edge_of(f.rp, f.r, f.p));
+    let pq = ve(v, f.edge_pq());
+    let qr = ve(v, f.edge_qr());
+    let rp = ve(v, f.edge_rp());
     three(f.pq, pq, f.qr, qr, f.rp, rp)
 }
 
@@ -322,9 +291,9 @@ pub fn fv_s(f: Facet, v: Point) -> i32
     ensures value { result ≡ C.S Axis.Z (C.fv f v) }
     ensures small { nat_abs result ≤ 1 }
 {
-    let pq = ev(edge_of(f.pq, f.p, f.q), v);
-    let qr = ev(edge_of(f.qr, f.q, f.r), v);
-    let rp = ev(edge_of(f.rp, f.r, f.p), v);
+    let pq = ev(f.edge_pq(), v);
+    let qr = ev(f.edge_qr(), v);
+    let rp = ev(f.edge_rp(), v);
     three(!f.pq, pq, !f.qr, qr, !f.rp, rp)
 }
 
@@ -333,9 +302,9 @@ pub fn ef(e: Edge, f: Facet) -> i32
     ensures value { result ≡ C.count (C.ef e f) }
     ensures small { nat_abs result ≤ 2 }
 {
-    let pq = edge_of(f.pq, f.p, f.q);
-    let qr = edge_of(f.qr, f.q, f.r);
-    let rp = edge_of(f.rp, f.r, f.p);
+    let pq = f.edge_pq();
+    let qr = f.edge_qr();
+    let rp = f.edge_rp();
     let s1 = ve(e.start, pq);
     let s2 = ve(e.start, qr);
     let s3 = ve(e.start, rp);
@@ -358,9 +327,9 @@ pub fn fe(f: Facet, e: Edge) -> i32
     ensures value { result ≡ C.count (C.fe f e) }
     ensures small { nat_abs result ≤ 2 }
 {
-    let pq = edge_of(f.pq, f.p, f.q);
-    let qr = edge_of(f.qr, f.q, f.r);
-    let rp = edge_of(f.rp, f.r, f.p);
+    let pq = f.edge_pq();
+    let qr = f.edge_qr();
+    let rp = f.edge_rp();
     let s1 = ev(pq, e.start);
     let s2 = ev(qr, e.start);
     let s3 = ev(rp, e.start);

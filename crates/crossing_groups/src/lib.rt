@@ -2,11 +2,11 @@
 // those of the columns that are near the box round it.
 #![tactic(auto)]
 
-ghost use Rattle.std.specs.Prelude.{◌≡◌, cond, [], ℕ, ◌+◌, ◌*◌, ◌-◌, ◌<◌, ◌≤◌, nat_abs, length, get_or};
+ghost use Rattle.std.specs.Prelude.{◌≡◌, cond, [], ◌-◌, ◌<◌, ◌≤◌, nat_abs, length};
 ghost use Rattle.solids.specs.Solids as So;
 ghost use Rattle.solids.specs.Admission as Ad;
-ghost use Rattle.solids.specs.declared.Verdict.TheVariants.{Accepted};
-ghost use Rattle.edges.specs.Words as Ed;
+ghost use Rattle.solids.specs.Refusals.{accepted};
+ghost use Rattle.edges.specs.Readers.{solid_of};
 ghost use Rattle.layouts.specs.Words as La;
 ghost use Rattle.bounds.specs.declared.Far.TheVariants.{Apart};
 ghost use Rattle.bounds.specs.Words as Bo;
@@ -14,7 +14,9 @@ ghost use Rattle.crossing_rows.specs.Words as Cr;
 ghost use Rattle.crossing_groups.specs.Words as Cg;
 
 use bounds::{Bounds, Far, Thing};
-use crossing_rows::{Listed, Row};
+use box_lists::Near;
+use crossing_rows::{Full, Row};
+use edges::ReadySolid;
 
 // Rows of one kind, from `begin` to `end`: what their columns are and how many, how many edges of A come before its facets, and the box round B's
 // vertices. Counts are multiplied by `sign`.
@@ -33,167 +35,119 @@ pub struct Search {
 fn find_row(
     row: Row,
     search: Search,
-    bp: &[f64],
-    bc: &[u32],
-    be: &[u32],
-    columns: &[u32],
-    boxes: &[f64],
+    near: &Near<'_>,
     from: usize,
     crossed: &mut [u32],
-) -> Listed
-    requires ready { Ed.Ready bp.now bc.now be.now × (Ad.admission (So.lent bp bc) ≡ Accepted) × Cr.Lying Bo.Present row }
-    requires sign_bound { (nat_abs search.sign ≤ 1) × (search.other ≡ Bo.whole (So.lent bp bc)) }
-    requires boxed { Bo.Boxed boxes.now (Cr.across row) (So.lent bp bc) × Bo.Among columns.now (Cr.across row) (So.lent bp bc) × (from ≤ length crossed.old) × (length crossed.old ≤ 262144) }
-    ensures added { Cr.Added crossed.old from (Cr.crossing search.sign (Cr.count_of row (So.lent bp.entry bc.entry)) columns.now) crossed.new result }
+) -> Result<usize, Full>
+    requires row { (near.now.thing ≡ Cr.across row) × Cr.Lying Bo.Present row }
+    requires sign_bound { (nat_abs search.sign ≤ 1) × (search.other ≡ Bo.whole (solid_of near.now.solid)) }
+    requires from_in_bounds { (from ≤ length crossed.old) × (length crossed.old ≤ 262144) }
+    ensures added { Cr.Added crossed.old from (Cr.crossing search.sign (Cr.count_of row (solid_of near.now.solid)) near.now.columns.now) crossed.new result }
     ensures same { length crossed.new ≡ length crossed.old }
 {
     let b = crossing_rows::round(row);
     if bounds::apart(b, search.other) {
-        return Listed::Found(from);
+        return Ok(from);
     }
     let mut k = from;
-    let mut i = 0;
-    while i < columns.len() {
-        let column = columns[i] as usize;
-        if !box_lists::far_at(Far::Apart, b, boxes, column) {
-            let Listed::Found(next) = crossing_rows::add(
-                row,
-                search.sign,
-                bp,
-                bc,
-                be,
-                column,
-                k,
-                crossed,
-            ) else {
-                return Listed::Full;
-            };
-            k = next;
+    for &c in near.columns {
+        let column = c as usize;
+        if !box_lists::far_at(Far::Apart, b, near.boxes, column) {
+            k = crossing_rows::add(row, search.sign, near.solid, column, k, crossed)?;
         }
-        i += 1;
     }
-    Listed::Found(k)
+    Ok(k)
 }
 
 // All rows of a search, with the same columns.
 pub fn find_rows(
     search: Search,
-    ap: &[f64],
-    ac: &[u32],
-    bp: &[f64],
-    bc: &[u32],
-    ends: &[u32],
-    columns: &[u32],
-    boxes: &[f64],
+    a: ReadySolid,
+    near: &Near<'_>,
     first: &mut [u32],
     crossed: &mut [u32],
-) -> Listed
-    requires both { Cg.Both ap.now ac.now bp.now bc.now ends.now }
-    requires searching { Cg.Searching search (So.lent ap ac) (So.lent bp bc) }
-    requires offered { Cg.Offered search (So.lent ap ac) (So.lent bp bc) columns.now boxes.now }
+) -> Result<usize, Full>
+    requires admitted { Ad.admission (solid_of a) ≡ accepted }
+    requires searching { Cg.Searching search (solid_of a) (solid_of near.now.solid) }
+    requires offered { Cg.Offered search (solid_of a) near.now }
     requires end_in_bounds { (search.end < length first.old) × (length first.old ≤ 65536) × (length crossed.old ≤ 262144) }
-    requires listing { La.Listing (Cr.row search.sign (So.lent ap ac) (So.lent bp bc)) search.begin first.old crossed.old }
-    ensures reached { Cg.Reached search.sign (So.lent ap.entry ac.entry) (So.lent bp.entry bc.entry) search.end first.new crossed.new result }
+    requires listing { La.Listing (Cr.row search.sign (solid_of a) (solid_of near.now.solid)) search.begin first.old crossed.old }
+    ensures reached { Cg.Reached search.sign (solid_of a.entry) (solid_of near.now.solid) search.end first.new crossed.new result }
     ensures same { (length first.new ≡ length first.old) × (length crossed.new ≡ length crossed.old) }
 {
-    let mut r = search.begin;
-    while r < search.end {
-        let row = crossing_rows::row_at(ap, ac, &ends[..768], search.edges, r);
-        let from = first[r] as usize;
-        let Listed::Found(next) = find_row(
-            row,
-            search,
-            bp,
-            bc,
-            &ends[768..],
-            columns,
-            boxes,
-            from,
-            crossed,
-        ) else {
-            return Listed::Full;
-        };
-        first[r + 1] = next as u32;
-        r += 1;
+    for r in search.begin..search.end {
+        let row = crossing_rows::row_at(a, search.edges, r);
+        let total = find_row(row, search, near, first[r] as usize, crossed)?;
+        first[r + 1] = total as u32;
     }
-    Listed::Found(first[r] as usize)
+    Ok(first[search.end] as usize)
 }
 
 // The box round the rows of a search.
-fn round_rows(search: Search, ap: &[f64], ac: &[u32], ae: &[u32]) -> Bounds
-    requires ready { Ed.Ready ap.now ac.now ae.now × (search.edges ≡ length (So.edges (So.lent ap ac))) }
-    requires begin_le_end { (search.begin ≤ search.end) × (search.end ≤ Cr.rows (So.lent ap ac) (So.lent ap ac)) }
-    ensures { result ≡ Bo.span (λ i. Cr.round (Cr.row_of (So.lent ap.entry ac.entry) i)) search.begin (search.end - search.begin) }
+#[tactic(auto, using(bounds::proofs::Things::span_next), unfolding(bounds::specs::Words::span))]
+fn round_rows(search: Search, a: ReadySolid) -> Bounds
+    requires edges { search.edges ≡ length (So.edges (solid_of a)) }
+    requires begin_le_end { (search.begin ≤ search.end) × (search.end ≤ Cr.rows (solid_of a) (solid_of a)) }
+    ensures { result ≡ Bo.span (λ i. Cr.round (Cr.row_of (solid_of a.entry) i)) search.begin (search.end - search.begin) }
 {
     let mut all = bounds::nowhere();
-    let mut r = search.begin;
-    while r < search.end {
+    for r in search.begin..search.end {
         all = bounds::joined(
             all,
-            crossing_rows::round(crossing_rows::row_at(ap, ac, ae, search.edges, r)),
+            crossing_rows::round(crossing_rows::row_at(a, search.edges, r)),
         );
-        r += 1;
     }
     all
 }
 
 // Those of the columns that what lies in a box can cross, into another list, and how many they are: none where the box is apart from B's.
-fn narrow(own: Bounds, other: Bounds, boxes: &[f64], columns: &[u32], few: &mut [u32]) -> usize
-    requires columns_in_bounds { (length columns.now ≤ length few.old) × (length columns.now ≤ 384) }
-    requires there { (i : ℕ) → i < length columns.now → 6 * get_or columns.now i 0 + 6 ≤ length boxes.now }
-    ensures narrowed { Bo.Narrowed few.new Apart own (Bo.box_at boxes.now) (cond (Bo.apart own other) [] columns.now) result }
+#[tactic(auto, using(bounds::proofs::Listing::narrowed_none))]
+fn narrow(own: Bounds, other: Bounds, near: &Near<'_>, few: &mut [u32]) -> usize
+    requires { length near.now.columns.now ≤ length few.old }
+    ensures narrowed { Bo.Narrowed few.new Apart own (Bo.box_at near.now.boxes.now) (cond (Bo.apart own other) [] near.now.columns.now) result }
     ensures same { length few.new ≡ length few.old }
 {
     if bounds::apart(own, other) {
         return 0;
     }
-    box_lists::narrow(Far::Apart, own, boxes, columns, few)
+    near.narrow(Far::Apart, own, few)
 }
 
-// All rows of a search, group by group: each has those of the columns that are near the box round it.
+// All rows of a search, group by group: each has those of the columns that are near the box round it. Where a group ends, the next begins.
 pub fn find_groups(
     search: Search,
-    ap: &[f64],
-    ac: &[u32],
-    bp: &[f64],
-    bc: &[u32],
-    ends: &[u32],
-    columns: &[u32],
-    boxes: &[f64],
+    a: ReadySolid,
+    near: &Near<'_>,
     first: &mut [u32],
     crossed: &mut [u32],
-) -> Listed
-    requires both { Cg.Both ap.now ac.now bp.now bc.now ends.now }
-    requires searching { Cg.Searching search (So.lent ap ac) (So.lent bp bc) }
-    requires offered { Cg.Offered search (So.lent ap ac) (So.lent bp bc) columns.now boxes.now }
+) -> Result<usize, Full>
+    requires admitted { Ad.admission (solid_of a) ≡ accepted }
+    requires searching { Cg.Searching search (solid_of a) (solid_of near.now.solid) }
+    requires offered { Cg.Offered search (solid_of a) near.now }
     requires end_in_bounds { (search.end < length first.old) × (length first.old ≤ 65536) × (length crossed.old ≤ 262144) }
-    requires listing { La.Listing (Cr.row search.sign (So.lent ap ac) (So.lent bp bc)) search.begin first.old crossed.old }
-    ensures reached { Cg.Reached search.sign (So.lent ap.entry ac.entry) (So.lent bp.entry bc.entry) search.end first.new crossed.new result }
+    requires listing { La.Listing (Cr.row search.sign (solid_of a) (solid_of near.now.solid)) search.begin first.old crossed.old }
+    ensures reached { Cg.Reached search.sign (solid_of a.entry) (solid_of near.now.solid) search.end first.new crossed.new result }
     ensures same { (length first.new ≡ length first.old) × (length crossed.new ≡ length crossed.old) }
 {
     let mut few = [0u32; 384];
     let mut r = search.begin;
+    // Group by group: how far one goes, `group_end` alone says.
     while r < search.end {
-        let mut group = search;
-        group.begin = r;
-        group.end = bounds::group_end(r, search.end);
-        let own = round_rows(group, ap, ac, &ends[..768]);
-        let n = narrow(own, search.other, boxes, columns, &mut few);
-        let Listed::Found(total) = find_rows(
-            group,
-            ap,
-            ac,
-            bp,
-            bc,
-            ends,
-            &few[..n],
-            boxes,
-            first,
-            crossed,
-        ) else {
-            return Listed::Full;
+        let group = Search {
+            begin: r,
+            end: bounds::group_end(r, search.end),
+            ..search
         };
+        let own = round_rows(group, a);
+        let n = narrow(own, search.other, near, &mut few);
+        let nearer = Near {
+            solid: near.solid,
+            thing: near.thing,
+            columns: &few[..n],
+            boxes: near.boxes,
+        };
+        find_rows(group, a, &nearer, first, crossed)?;
         r = group.end;
     }
-    Listed::Found(first[r] as usize)
+    Ok(first[r] as usize)
 }

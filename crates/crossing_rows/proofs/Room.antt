@@ -11,7 +11,7 @@ use Rattle.list_words.specs.Lists.{up_to, nonzero}
 use Rattle.list_words.proofs.UpTo.{length_up_to, flat_up_to_suc}
 use Rattle.list_words.proofs.Places.{flat_up_to_add}
 use Rattle.solids.specs.Solids.{Solid, facets, edges}
-use Rattle.solids.specs.declared.Verdict.TheVariants.{Accepted}
+use Rattle.solids.specs.Refusals.{accepted}
 use Rattle.solids.specs.Admission.{admission}
 use Rattle.solids.proofs.Admitted.{passed}
 use Rattle.edges.proofs.Edges.{keep_le}
@@ -35,7 +35,7 @@ module _ (s : ℤ) (a b : Solid) where
       let cs = up_to (columns (sizes a b) r) in
       omega (arith, keep_le (λ (x : ℕ × ℤ). nonzero x.1) (map at cs), length-map cs at, length_up_to (columns (sizes a b) r))
 
-  pub enough : admission a ≡ Accepted → admission b ≡ Accepted → length (flat_map (row s a b) (up_to (rows a b))) ≤ 196608
+  pub enough : admission a ≡ accepted → admission b ≡ accepted → length (flat_map (row s a b) (up_to (rows a b))) ≤ 196608
   enough ok_a ok_b =
       let z = sized a b (passed a ok_a) (passed b ok_b) in
       let ea = length (edges a) in

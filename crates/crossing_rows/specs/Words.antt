@@ -1,6 +1,6 @@
 -- Words of contracts; no public statement needs them. Rows of crossings: what is listed, a row as it is walked, and what the list of
 -- crossings holds behind others.
-use Rattle.std.specs.Prelude.{◌≡◌, cond, ℕ, ◌+◌, ◌-◌, ◌<◌, ◌≤◌, ltb, ℤ, ◌*ℤ◌, length, take}
+use Rattle.std.specs.Prelude.{◌≡◌, cond, ℕ, ◌+◌, ◌-◌, ◌<◌, ◌≤◌, ltb, ℤ, ◌*ℤ◌, length, take, Result, Ok, Err}
 use mathlib.Core.List.{List, map, flat_map, ◌++◌}
 use Rattle.list_words.specs.Lists.{up_to, keep, nonzero}
 use Rattle.points.specs.declared.Point.{Point}
@@ -13,8 +13,7 @@ use Rattle.bounds.specs.declared.Bounds.{Bounds}
 use Rattle.bounds.specs.declared.Thing.{Thing}
 use Rattle.bounds.specs.declared.Thing.TheVariants.{Edges, Facets}
 use Rattle.bounds.specs.Words.{round_edge, round_facet}
-use Rattle.crossing_rows.specs.declared.Listed.{Listed}
-use Rattle.crossing_rows.specs.declared.Listed.TheVariants.{Found, Full}
+use Rattle.crossing_rows.specs.declared.Full.{Full}
 use Rattle.crossing_rows.specs.declared.Row.{Row}
 use Rattle.crossing_rows.specs.declared.Row.TheVariants.{OfEdge, OfFacet}
 
@@ -33,9 +32,9 @@ abbrev pub rows : Solid → Solid → ℕ
 rows a b = length (edges a) + facets a
 
 -- `Full`: there are more than there is room for
-abbrev pub Answered : ℤ → Solid → Solid → List ℕ → List ℕ → Listed → Type 0
-Answered s a b first crossed (Found total) = (total ≡ length (flat_map (row s a b) (up_to (rows a b)))) × Listing (row s a b) (rows a b) first crossed
-Answered s a b first crossed Full = length crossed < length (flat_map (row s a b) (up_to (rows a b)))
+abbrev pub Answered : ℤ → Solid → Solid → List ℕ → List ℕ → Result ℕ Full → Type 0
+Answered s a b first crossed (Ok total) = (total ≡ length (flat_map (row s a b) (up_to (rows a b)))) × Listing (row s a b) (rows a b) first crossed
+Answered s a b first crossed (Err full) = length crossed < length (flat_map (row s a b) (up_to (rows a b)))
 
 -- ---- a row
 abbrev pub round : Row → Bounds
@@ -72,6 +71,6 @@ pub record Behind (old : List ℕ) (from : ℕ) (l : List (ℕ × ℤ)) (new : L
   pub room : total ≤ length new
   pub front : map unpacked (take total new) ≡ map unpacked (take from old) ++ l
 
-abbrev pub Added : List ℕ → ℕ → List (ℕ × ℤ) → List ℕ → Listed → Type 0
-Added old from l new (Found total) = Behind old from l new total
-Added old from l new Full = length new < from + length l
+abbrev pub Added : List ℕ → ℕ → List (ℕ × ℤ) → List ℕ → Result ℕ Full → Type 0
+Added old from l new (Ok total) = Behind old from l new total
+Added old from l new (Err full) = length new < from + length l

@@ -1,22 +1,21 @@
 // Rows of crossings: an edge of A with facets of B, or a facet of A with edges of B. A crossing that counts is listed as one number with its column and
 // its count.
+// Lists that are written stay parameters, for the reason that crates/edges gives.
 #![tactic(auto)]
 
 ghost use Rattle.std.specs.Prelude.{◌≡◌, [], ◌∷◌, ◌<◌, ◌≤◌, nat_abs, length};
 ghost use Rattle.solids.specs.Solids as So;
-ghost use Rattle.edges.specs.Words as Ed;
+ghost use Rattle.edges.specs.Readers.{solid_of};
 ghost use Rattle.bounds.specs.Words as Bo;
 ghost use Rattle.crossing_rows.specs.Words as Cr;
 
 use bounds::Bounds;
 use crossings::{Edge, Facet};
+use edges::ReadySolid;
 
-// How many were listed, or that there is no room for all.
-#[derive(Clone, Copy)]
-pub enum Listed {
-    Found(usize),
-    Full,
-}
+// There is no room for all crossings.
+#[derive(Clone, Copy, Debug, PartialEq, Eq)]
+pub struct Full;
 
 // An edge of A, whose columns are facets of B, or a facet of A, whose columns are edges of B.
 #[derive(Clone, Copy)]
@@ -34,51 +33,51 @@ pub fn round(row: Row) -> Bounds
     }
 }
 
-pub fn row_at(ap: &[f64], ac: &[u32], ae: &[u32], edges: usize, r: usize) -> Row
-    requires { Ed.Ready ap.now ac.now ae.now × («edges» ≡ length (So.edges (So.lent ap ac))) × (r < Cr.rows (So.lent ap ac) (So.lent ap ac)) }
-    ensures { result ≡ Cr.row_of (So.lent ap.entry ac.entry) r }
+#[tactic(auto, unfolding(crate::specs::Words::row_of))]
+pub fn row_at(a: ReadySolid, edges: usize, r: usize) -> Row
+    requires { («edges» ≡ length (So.edges (solid_of a))) × (r < Cr.rows (solid_of a) (solid_of a)) }
+    ensures { result ≡ Cr.row_of (solid_of a.entry) r }
 {
     if r < edges {
-        Row::OfEdge(edges::edge_at(ap, ae, ac, r))
+        Row::OfEdge(a.edge(r))
     } else {
-        Row::OfFacet(facets::facet(ap, ac, r - edges))
+        Row::OfFacet(a.facet(r - edges))
     }
 }
 
-fn count_of(row: Row, bp: &[f64], bc: &[u32], be: &[u32], column: usize) -> i32
-    requires { Ed.Ready bp.now bc.now be.now × (column < Bo.many (Cr.across row) (So.lent bp bc)) }
-    ensures value { result ≡ Cr.count_of row (So.lent bp.entry bc.entry) column }
+#[tactic(auto, unfolding(crate::specs::Words::count_of))]
+fn count_of(row: Row, b: ReadySolid, column: usize) -> i32
+    requires { column < Bo.many (Cr.across row) (solid_of b) }
+    ensures value { result ≡ Cr.count_of row (solid_of b.entry) column }
     ensures small { nat_abs result ≤ 2 }
 {
     match row {
-        Row::OfEdge(e) => crossing_counts::ef(e, facets::facet(bp, bc, column)),
-        Row::OfFacet(f) => crossing_counts::fe(f, edges::edge_at(bp, be, bc, column)),
+        Row::OfEdge(e) => crossing_counts::ef(e, b.facet(column)),
+        Row::OfFacet(f) => crossing_counts::fe(f, b.edge(column)),
     }
 }
 
-// One column's crossing, if its count is not 0, behind the first k.
+// One column's crossing, if its count is not 0, behind the first k; how many there are then.
 pub fn add(
     row: Row,
     sign: i32,
-    bp: &[f64],
-    bc: &[u32],
-    be: &[u32],
+    b: ReadySolid,
     column: usize,
     k: usize,
     crossed: &mut [u32],
-) -> Listed
-    requires ready { Ed.Ready bp.now bc.now be.now × (column < Bo.many (Cr.across row) (So.lent bp bc)) }
+) -> Result<usize, Full>
+    requires column_in_bounds { column < Bo.many (Cr.across row) (solid_of b) }
     requires sign_bound { (nat_abs sign ≤ 1) × (k ≤ length crossed.old) × (length crossed.old ≤ 262144) }
-    ensures added { Cr.Added crossed.old k (Cr.crossing sign (Cr.count_of row (So.lent bp.entry bc.entry)) (column ∷ [])) crossed.new result }
+    ensures added { Cr.Added crossed.old k (Cr.crossing sign (Cr.count_of row (solid_of b.entry)) (column ∷ [])) crossed.new result }
     ensures same { length crossed.new ≡ length crossed.old }
 {
-    let n = sign * count_of(row, bp, bc, be, column);
+    let n = sign * count_of(row, b, column);
     if n == 0 {
-        return Listed::Found(k);
+        return Ok(k);
     }
     if crossed.len() <= k {
-        return Listed::Full;
+        return Err(Full);
     }
     crossed[k] = layouts::pack::packed(column, n);
-    Listed::Found(k + 1)
+    Ok(k + 1)
 }

@@ -7,3 +7,4 @@ pub mod Real
 pub mod Kept
 pub mod Sizes
 pub mod Fits
+pub mod Halves

@@ -54,6 +54,10 @@ crossing k n cs = cond (nonzero n) (Cross n (placed k (points (first k true cs))
 unfoldable pub paired : Axis → List Crossing → Crossing
 paired k cs = crossing k (sum_of (S k) cs) cs
 
+-- the edge of the half-edge from p to q, which runs along it (true) or against it
+abbrev pub edge_of : Bool → Point → Point → Edge
+edge_of along p q = cond along (record { start = p; end = q }) (record { start = q; end = p })
+
 -- what g gives for the half-edge from p to q, which runs along its edge (true) or against it
 abbrev pub half : (Edge → Crossing) → Bool → Point → Point → Crossing
 half g true p q = g (record { start = p; end = q })

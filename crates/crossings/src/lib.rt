@@ -16,6 +16,19 @@ pub struct Edge {
     pub end: Point,
 }
 
+impl Edge {
+    // The edge of the half-edge from p to q, which runs along it or against it. Nothing is worked out in a half-edge's own direction.
+    pub fn of(along: bool, p: Point, q: Point) -> Edge
+        ensures { result ≡ C.edge_of along p q }
+    {
+        if along {
+            Edge { start: p, end: q }
+        } else {
+            Edge { start: q, end: p }
+        }
+    }
+}
+
 // A facet's corners p, q, r, and for each of its half-edges whether it runs along its edge (true) or against it.
 #[derive(Clone, Copy)]
 pub struct Facet {
@@ -27,7 +40,28 @@ pub struct Facet {
     pub rp: bool,
 }
 
-// "a pairing either misses, or crosses with its count and two points, one on each thing"
+// The edges of its half-edges.
+impl Facet {
+    pub fn edge_pq(self) -> Edge
+        ensures { result ≡ C.edge_of self.pq self.p self.q }
+    {
+        Edge::of(self.pq, self.p, self.q)
+    }
+
+    pub fn edge_qr(self) -> Edge
+        ensures { result ≡ C.edge_of self.qr self.q self.r }
+    {
+        Edge::of(self.qr, self.q, self.r)
+    }
+
+    pub fn edge_rp(self) -> Edge
+        ensures { result ≡ C.edge_of self.rp self.r self.p }
+    {
+        Edge::of(self.rp, self.r, self.p)
+    }
+}
+
+// "a pairing either misses, or crosses with its count and two points, one on each thing". Not an Option: it has the methods below.
 #[derive(Clone, Copy)]
 pub enum Crossing {
     Miss,

@@ -5,8 +5,7 @@ ghost use Rattle.std.specs.Prelude.{◌≡◌, ◌≤◌, nat_abs};
 ghost use Rattle.crossings.specs.Crossings as C;
 
 use crossings::{Crossing, Edge, Facet};
-use gathering::Gather;
-use points::{Axis, Point};
+use points::Axis;
 
 // "X(eA,eB) = S(eA's e,eB) - S(eA's s,eB) + S(eA,eB's e) - S(eA,eB's s)"
 pub fn ee(a: Edge, b: Edge) -> Crossing
@@ -17,23 +16,10 @@ pub fn ee(a: Edge, b: Edge) -> Crossing
     let end_a = vertex_edge::ve(a.end, b);
     let start_b = vertex_edge::ev(a, b.start).against();
     let end_b = vertex_edge::ev(a, b.end);
-    let of_b = Gather::empty(Axis::Y).with(end_b).with(start_b);
-    of_b.with(end_a).with(start_a).finish()
+    gathering::paired(Axis::Y, &[start_a, end_a, start_b, end_b])
 }
 
-fn eh(e: Edge, along: bool, p: Point, q: Point) -> Crossing
-    ensures value { result ≡ C.half (C.ee e) along p q }
-    ensures small { nat_abs (C.count result) ≤ 1 }
-{
-    ee(e, vertex_edge::edge_of(along, p, q)).signed(along)
-}
-
-fn he(along: bool, p: Point, q: Point, e: Edge) -> Crossing
-    ensures value { result ≡ C.half (λ h. C.ee h e) along p q }
-    ensures small { nat_abs (C.count result) ≤ 1 }
-{
-    ee(vertex_edge::edge_of(along, p, q), e).signed(along)
-}
+// An edge with a facet and a facet with an edge are two functions, as the document has a formula for each: order and signs are all that they are.
 
 // "X(eA,fB) = S(s,fB) - S(e,fB) - sum S(eA,h)"
 pub fn ef(e: Edge, f: Facet) -> Crossing
@@ -42,11 +28,10 @@ pub fn ef(e: Edge, f: Facet) -> Crossing
 {
     let start = vertex_facet::vf(e.start, f);
     let end = vertex_facet::vf(e.end, f).against();
-    let pq = eh(e, f.pq, f.p, f.q).against();
-    let qr = eh(e, f.qr, f.q, f.r).against();
-    let rp = eh(e, f.rp, f.r, f.p).against();
-    let of_b = Gather::empty(Axis::Z).with(rp).with(qr).with(pq);
-    of_b.with(end).with(start).finish()
+    let pq = ee(e, f.edge_pq()).signed(f.pq).against();
+    let qr = ee(e, f.edge_qr()).signed(f.qr).against();
+    let rp = ee(e, f.edge_rp()).signed(f.rp).against();
+    gathering::paired(Axis::Z, &[start, end, pq, qr, rp])
 }
 
 // "X(fA,eB) = S(fA,e) - S(fA,s) - sum S(h,eB)"
@@ -54,11 +39,10 @@ pub fn fe(f: Facet, e: Edge) -> Crossing
     ensures value { result ≡ C.fe f e }
     ensures small { nat_abs (C.count result) ≤ 2 }
 {
-    let pq = he(f.pq, f.p, f.q, e).against();
-    let qr = he(f.qr, f.q, f.r, e).against();
-    let rp = he(f.rp, f.r, f.p, e).against();
+    let pq = ee(f.edge_pq(), e).signed(f.pq).against();
+    let qr = ee(f.edge_qr(), e).signed(f.qr).against();
+    let rp = ee(f.edge_rp(), e).signed(f.rp).against();
     let start = vertex_facet::fv(f, e.start).against();
     let end = vertex_facet::fv(f, e.end);
-    let of_b = Gather::empty(Axis::Z).with(end).with(start);
-    of_b.with(rp).with(qr).with(pq).finish()
+    gathering::paired(Axis::Z, &[pq, qr, rp, start, end])
 }

@@ -4,37 +4,25 @@
 mod quiet;
 
 ghost use Rattle.std.specs.Prelude.{◌+◌, ◌≤◌, length};
-ghost use Rattle.joined_ends.specs.Words.{Behind};
-ghost use Rattle.crossed_pieces.specs.Words as Cp;
+ghost use Rattle.joined_ends.specs.Words.{flat, Behind};
+ghost use Rattle.composite_ends.specs.Words as Ce;
 
-use composite_ends::{composite, places, rows};
-use layouts::Plan;
+use composite_ends::{Kept, places, rows};
 
 // "start (minus its inclusion), end (its inclusion), then crossings"; of a half-edge against its edge each count is negated, which turns each piece
 // round. They go behind the first `to` numbers of the list. Most edges are not crossed at all.
-pub fn half_pieces(
-    inc: &[i16],
-    num: &[u32],
-    first: &[u32],
-    crossed: &[u32],
-    halves: &[u32],
-    plan: Plan,
-    marks: &[u64],
-    h: usize,
-    list: &mut [u32],
-    to: usize,
-) -> usize
-    requires given { Cp.Given plan inc.now num.now first.now crossed.now halves.now marks.now h }
-    requires h_in_bounds { to + length (Cp.pieces_of plan inc.now num.now first.now crossed.now halves.now h) ≤ length list.old }
-    ensures { Behind (Cp.pieces_of plan inc.now num.now first.now crossed.now halves.now h) list.old to list.new result }
+pub fn half_pieces(kept: &Kept<'_>, h: usize, list: &mut [u32], to: usize) -> usize
+    requires half { Ce.IsHalf kept.now.crossings h }
+    requires h_in_bounds { to + length (flat (Ce.half_of kept.now h)) ≤ length list.old }
+    ensures { Behind (flat (Ce.half_of kept.now h)) list.old to list.new result }
 {
-    let row = 256 * rows::line_row(halves, plan.sizes, h);
-    let end = row + rows::line_many(plan.sizes, h);
-    if marks::first(marks, row, end) == end {
-        let against = places::against(halves, h);
-        let start = composite::corner(inc, num, halves, plan.sizes, h, 1, !against);
-        let stop = composite::corner(inc, num, halves, plan.sizes, h, 2, against);
+    let row = 256 * rows::line_row(kept.crossings.halves, kept.crossings.plan.sizes, h);
+    let end = row + rows::line_many(kept.crossings.plan.sizes, h);
+    if marks::first(kept.marks, row, end) == end {
+        let against = places::against(kept.crossings.halves, h);
+        let start = kept.start(h, !against);
+        let stop = kept.stop(h, against);
         return quiet::two_ends(start, stop, list, to);
     }
-    crossed_pieces::put_pieces(inc, num, first, crossed, halves, plan, marks, h, list, to)
+    crossed_pieces::put_pieces(kept, h, list, to)
 }

@@ -6,6 +6,7 @@ use mathlib.Core.List.Memᴰ
 use mathlib.Core.List.{List, [], ◌∷◌, ◌++◌, flat_map, append-nil, append_assoc, Memᴰ}
 use Prim.Native.Nat.{ℕ, zero, suc, ◌+◌, ◌*◌, ◌<◌, ◌≤◌}
 use native.Mathlib.Omega.{arith}
+use native.Mathlib.Nat.{mul-le-mul_right}
 use native.Mathlib.Numerals.{add-one}
 use lib.Dec.{eqb, eqb→eq, eqb_refl}
 use lib.ListN.{length, get_or, take, set, length-set, length-append, length-map}
@@ -16,11 +17,15 @@ use Rattle.list_words.proofs.Tests.{of_T, T_of, never, all_keep}
 use Rattle.list_words.proofs.UpTo.{all_up_to, length_up_to, map_up_to_suc, flat_up_to_suc}
 use Rattle.list_words.proofs.Closed.{same_half_sound, same_half_self}
 use Rattle.list_stores.proofs.Kept.{keep_append}
-use Rattle.solids.specs.Solids.{Solid, vertices, edges, Half, same_half, pairs, is_edge, half_edges, solid}
-use Rattle.solids.specs.Words.{place}
+use Rattle.solids.specs.Solids.{Solid, vertices, edges, Half, number_of, same_half, pairs, is_edge, half_edges, solid}
+use Rattle.solids.specs.Words.{place, Tallied}
 use Rattle.edges.specs.Words.{seen, edges_seen, edges_of, edge_number, two_each, Listed}
 use Rattle.solids.proofs.Pairs.{row}
 use Rattle.solids.proofs.Tally.{place_apart}
+
+-- what stands in the table of counts
+pub tallied_at : {table : List ℕ} {hs : List Half} (t : Tallied table hs) (p q : ℕ) → p < 128 → q < 128 → number_of (p, q) hs ≡ get_or table (128 * p + q) 0
+tallied_at t p q h k = sym (t.at (p, q) h k)
 
 -- ---- what comes next
 pub seen_next : (n p q : ℕ) → seen n p (q + 1) ≡ seen n p q ++ ((p, q) ∷ [])
@@ -78,6 +83,9 @@ edges_few corners n p q =
       length-map {B = Half} (up_to q) (λ s. (p, s)),
       length_up_to q,
     )
+
+pub edges_room : (corners : List ℕ) (n p q : ℕ) → p < n → q < n → n ≤ 128 → length (edges_seen corners n p q) ≤ 16383
+edges_room corners n p q a b h = let k : p ≤ 127 = omega arith in omega (arith, edges_few corners n p q, mul-le-mul_right n k)
 
 -- ---- nothing comes twice: what is seen stands in an earlier row, or earlier in this one
 pub record Earlier (p q : ℕ) (d : Half) : Type 0 where

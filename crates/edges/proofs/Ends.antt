@@ -1,14 +1,14 @@
 -- An edge's ends, read from the list of ends.
 use mathlib.Core.Path.{◌≡◌, refl, sym, ap, ◌∙◌}
 use mathlib.Core.List.{List, [], ◌∷◌}
-use Prim.Native.Nat.{ℕ, ◌+◌, ◌*◌, ◌<◌, ◌≤◌}
+use Prim.Native.Nat.{ℕ, ◌+◌, ◌*◌, ◌<◌}
 use native.Mathlib.Omega.{arith}
-use lib.ListN.{length, get_or, take}
+use lib.ListN.{length, get_or}
 use lib.Seq.{get_or-take}
 use lib.Ieee.{Float}
 use Rattle.solids.specs.Solids.{Solid, Half, solid, vertices, edges}
 use Rattle.solids.proofs.Shut.{IsEdge, all_edges}
-use Rattle.edges.specs.Words.{two_each, edge_numbered, Ready}
+use Rattle.edges.specs.Words.{edge_numbered, Ready}
 use Rattle.list_words.proofs.Places.{all_get_d, get_or_blocks}
 
 module _ {points : List Float} {corners ends : List ℕ} (r : Ready points corners ends) (e : ℕ) where

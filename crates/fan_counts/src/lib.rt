@@ -6,7 +6,8 @@ ghost use Rattle.fan_counts.specs.Words.{told};
 
 use results::End;
 
-// How many pieces there are, the least vertex so far, and how many ends are there (0: none counts yet).
+// How many pieces there are, the least vertex so far, and how many ends are there (0: none counts yet). `at` is a number that triangles are counted with,
+// so an Option for the vertex with its ends would be no plainer: who counts would have to open it for the 0.
 #[derive(Clone, Copy)]
 pub struct Tally {
     pub pieces: usize,
@@ -19,36 +20,22 @@ pub fn tell(t: Tally, e: End) -> Tally
     requires { (t.pieces ≤ 1073741824) × (t.at ≤ 1073741824) × (nat_abs e.count ≤ 257) }
     ensures { result ≡ told t e }
 {
-    let s = placed_ends::starts_of(e.count);
-    let n = s + placed_ends::stops_of(e.count);
-    if n == 0 {
+    let size = e.count.unsigned_abs() as usize;
+    if size == 0 {
         return t;
     }
-    let pieces = t.pieces + s as usize;
-    let size = n as usize;
-    let least = t.least;
-    let at = t.at;
-    let v = e.vertex;
-    if at == 0 {
+    let pieces = t.pieces + placed_ends::starts_of(e.count) as usize;
+    if t.at == 0 || e.vertex < t.least {
         return Tally {
             pieces,
-            least: v,
+            least: e.vertex,
             at: size,
         };
     }
-    if v < least {
-        return Tally {
-            pieces,
-            least: v,
-            at: size,
-        };
+    let more = if e.vertex == t.least { size } else { 0 };
+    Tally {
+        pieces,
+        least: t.least,
+        at: t.at + more,
     }
-    if least == v {
-        return Tally {
-            pieces,
-            least,
-            at: at + size,
-        };
-    }
-    Tally { pieces, least, at }
 }

@@ -2,13 +2,13 @@
 use mathlib.Core.Path.{◌≡◌, refl, sym, ap, ◌∙◌}
 use mathlib.Core.Bool.{Bool, not}
 use mathlib.Core.List.{List, [], ◌∷◌, ◌++◌, flat_map, map-append}
-use Prim.Native.Nat.{ℕ, ◌+◌, ◌*◌, ◌<◌, ◌≤◌}
+use Prim.Native.Nat.{ℕ, zero, suc, ◌+◌, ◌*◌, ◌<◌, ◌≤◌}
 use native.Mathlib.Nat.{add-zero}
 use native.Mathlib.Numerals.{add-one}
 use native.Mathlib.Omega.{arith}
 use borrow.Author.Tests.{eq-eqb, ne_eqb}
 use lib.ListN.{length, get_or, take, set, length-append, length-map}
-use lib.Seq.{sets, get_or-take}
+use lib.Seq.{sets}
 use Rattle.list_words.specs.Lists.{up_to, keep, least, onto}
 use Rattle.list_words.proofs.Sums.{flat_append}
 use Rattle.list_words.proofs.UpTo.{length_up_to}
@@ -31,15 +31,10 @@ length_firsts : (l : List ℕ) (n : ℕ) → length (firsts l n) ≡ n
 unfolding firsts
 length_firsts l n = length-map (up_to n) (λ i. (get_or l (2 * i) 0, get_or l (2 * i + 1) 0)) ∙ length_up_to n
 
-smallest_firsts : (l : List ℕ) (n : ℕ) → 0 < n → 2 * n ≤ length l → smallest (firsts l n) ≡ least (get_or l 0 0) (take (2 * n) l)
-smallest_firsts l n h k =
-    smallest_number (firsts l n) (omega (arith, length_firsts l n)) ∙ rw (numbers_firsts l n k) (ap (λ m. least m (take (2 * n) l)) (get_or-take (2 * n) l 0 0 (omega arith)))
+smallest_firsts : (l : List ℕ) (n : ℕ) → 0 < n → 2 * n ≤ length l → smallest (firsts l n) ≡ least (get_or (take (2 * n) l) 0 0) (take (2 * n) l)
+smallest_firsts l n h k = smallest_number (firsts l n) (omega (arith, length_firsts l n)) ∙ rw (numbers_firsts l n k)
 
 -- ---- the fan
-pub fan_first : (o : ℕ) (l : List ℕ) (n : ℕ) → 0 < n → 2 * n ≤ length l → fan o (firsts l n) ≡ fan_at o (least (get_or l 0 0) (take (2 * n) l)) (firsts l n)
-unfolding fan fan_at
-fan_first o l n h k = ap (λ a. fan_at o a (firsts l n)) (smallest_firsts l n h k)
-
 pub fan_none : (o : ℕ) (l : List ℕ) (n : ℕ) → n ≡ 0 → fan o (firsts l n) ≡ []
 unfolding fan firsts up_to keep
 fan_none o l n e = rw e
@@ -47,6 +42,12 @@ fan_none o l n e = rw e
 pub fan_start : (o a : ℕ) (l : List ℕ) → fan_at o a (firsts l 0) ≡ []
 unfolding fan_at firsts up_to keep
 fan_start o a l = refl
+
+-- from the smallest number; of no pieces it is the same from any
+pub fan_first : (o a : ℕ) (l : List ℕ) (n : ℕ) → 2 * n ≤ length l → a ≡ least (get_or (take (2 * n) l) 0 0) (take (2 * n) l) → fan o (firsts l n) ≡ fan_at o a (firsts l n)
+unfolding fan fan_at
+fan_first o a l zero k e = fan_none o l 0 refl ∙ sym (fan_start o a l)
+fan_first o a l (suc n) k e = ap (λ b. fan_at o b (firsts l (suc n))) (smallest_firsts l (suc n) (omega arith) k ∙ sym e)
 
 fan_append : (o a : ℕ) (xs ys : List Half) → fan_at o a (xs ++ ys) ≡ fan_at o a xs ++ fan_at o a ys
 unfolding fan_at

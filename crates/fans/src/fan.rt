@@ -1,6 +1,7 @@
 // The triangles over one boundary: "let a be the smallest result number on that boundary; each boundary half-edge p→q, in order, without a at
 // either end gives the triangle a,p,q". They are stored as far as there is room, and counted all the same.
-ghost use Rattle.std.specs.Prelude.{◌≡◌, [], ◌∷◌, ◌+◌, ◌*◌, ◌<◌, ◌≤◌, min, length, get_or, take};
+// Lists that are written stay parameters, for the reason that crates/edges gives.
+ghost use Rattle.std.specs.Prelude.{◌≡◌, [], ◌∷◌, ◌+◌, ◌*◌, ◌<◌, ◌≤◌, length, get_or, MatchOption};
 ghost use Rattle.list_words.specs.Lists.{least};
 ghost use Rattle.results.specs.Triangles.{fan};
 ghost use Rattle.joined_ends.specs.Words.{firsts};
@@ -19,10 +20,7 @@ fn put_triangle(
     ensures laid { Laid (fan_at origin a ((p, q) ∷ [])) corners.old origins.old k corners.new origins.new result }
     ensures small { result ≤ k + 1 }
 {
-    if a == p {
-        return k;
-    }
-    if a == q {
+    if a == p || a == q {
         return k;
     }
     list_stores::put_three(a, p, q, corners, 3 * k);
@@ -30,27 +28,14 @@ fn put_triangle(
     k + 1
 }
 
-fn lesser(a: u32, b: u32) -> u32
-    ensures { result ≡ min a b }
+// The smallest of the numbers, if there are any.
+fn smallest(list: &[u32]) -> Option<u32>
+    ensures { MatchOption result (length list.now ≡ 0) (λ a. a ≡ least (get_or list.now 0 0) list.now) }
 {
-    if b < a { b } else { a }
+    list.iter().copied().min()
 }
 
-// The smallest of the first m numbers.
-fn smallest(list: &[u32], m: usize) -> u32
-    requires { (0 < m) × (m ≤ length list.now) }
-    ensures { result ≡ least (get_or list.now 0 0) (take m list.now) }
-{
-    let mut a = list[0];
-    let mut i = 0;
-    while i < m {
-        a = lesser(a, list[i]);
-        i += 1;
-    }
-    a
-}
-
-// The fan over the first n pieces of the list.
+// The fan over the first n pieces of the list, which are 2 * n numbers: of a slice it would have to be known that its length is even.
 pub fn put_fan(
     list: &[u32],
     n: usize,
@@ -63,15 +48,12 @@ pub fn put_fan(
     ensures laid { Laid (fan origin (firsts list.now n)) corners.old origins.old at corners.new origins.new result }
     ensures small { result ≤ at + n }
 {
-    if n == 0 {
+    let Some(a) = smallest(&list[..2 * n]) else {
         return at;
-    }
-    let a = smallest(list, 2 * n);
+    };
     let mut k = at;
-    let mut i = 0;
-    while i < n {
+    for i in 0..n {
         k = put_triangle(a, list[2 * i], list[2 * i + 1], origin, corners, origins, k);
-        i += 1;
     }
     k
 }

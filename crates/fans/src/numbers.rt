@@ -19,14 +19,11 @@ pub fn number(inc: &[i16], num: &mut [u32], from: usize, many: usize, start: usi
     ensures same { length num.new ≡ length num.old }
 {
     let mut k = start;
-    let mut i = 0;
-    while i < many {
+    for i in 0..many {
         num[from + i] = k as u32;
-        let c = inc[from + i];
-        if kept(c) {
+        if kept(inc[from + i]) {
             k += 1;
         }
-        i += 1;
     }
     k
 }

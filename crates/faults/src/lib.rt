@@ -11,7 +11,7 @@ ghost use Rattle.solids.specs.Admission as Ad;
 ghost use Rattle.solids.specs.Words as Sw;
 
 use points::Point;
-use solids::{Answer, Verdict};
+use solids::{Refusal, Verdict};
 
 // A NaN, and nothing else, differs from itself.
 pub fn blank(x: f64) -> bool
@@ -23,80 +23,63 @@ pub fn blank(x: f64) -> bool
 pub fn beyond(x: f64) -> bool
     ensures { result ≡ Ad.beyond x }
 {
-    if x > 1048576.0 { true } else { x < -1048576.0 }
+    x > 1048576.0 || x < -1048576.0
 }
 
 // Check 3 (blanks) or check 4 (beyond the limit) of one coordinate.
+// A flag and no closure: which of the two is looked for is a word of the contracts, and one clause serves both.
 fn bad(blanks: bool, x: f64) -> bool
     ensures { result ≡ Sw.bad blanks x }
 {
     if blanks { blank(x) } else { beyond(x) }
 }
 
+#[tactic(auto, unfolding(list_words::specs::Lists::any))]
 pub fn bad_point(blanks: bool, v: Point) -> bool
     ensures { result ≡ any (Sw.bad blanks) (coordinates v) }
 {
-    if bad(blanks, v.x) {
-        true
-    } else if bad(blanks, v.y) {
-        true
-    } else {
-        bad(blanks, v.z)
-    }
+    bad(blanks, v.x) || bad(blanks, v.y) || bad(blanks, v.z)
 }
 
-// The number of that check.
-fn bad_number(blanks: bool) -> u32
-    ensures { result ≡ Sw.bad_number blanks }
+// What that check refuses for.
+fn bad_refusal(blanks: bool) -> Refusal
+    ensures { Sw.number result ≡ Sw.bad_number blanks }
 {
-    if blanks { 3 } else { 4 }
+    if blanks {
+        Refusal::Blank
+    } else {
+        Refusal::OutOfRange
+    }
 }
 
 // Check 3 or check 4, vertex by vertex: the first that is bad.
 pub fn check_points(blanks: bool, points: &[f64]) -> Verdict
     ensures { result ≡ at_each (length points.now / 3) (Sw.check_vertex blanks (So.solid points.now [])) }
 {
-    let mut i = 0;
-    while i < points.len() / 3 {
+    for i in 0..points.len() / 3 {
         if bad_point(blanks, vertices::vertex(points, i)) {
-            return Verdict::Refused(Answer::on_solid(bad_number(blanks), i));
+            return Err(bad_refusal(blanks).on_solid(i));
         }
-        i += 1;
     }
-    Verdict::Accepted
+    Ok(())
 }
 
-fn wide(x: u32) -> usize
-    ensures { result ≡ x }
-{
-    x as usize
-}
-
+#[tactic(auto, unfolding(solids::specs::Admission::too_high))]
 fn too_high(n: usize, p: u32, q: u32, r: u32) -> bool
     ensures { result ≡ Ad.too_high n p q r }
 {
-    if n <= wide(p) {
-        true
-    } else if n <= wide(q) {
-        true
-    } else {
-        n <= wide(r)
-    }
+    n <= p as usize || n <= q as usize || n <= r as usize
 }
 
+#[tactic(auto, unfolding(solids::specs::Admission::named_twice))]
 fn named_twice(p: u32, q: u32, r: u32) -> bool
     ensures { result ≡ Ad.named_twice p q r }
 {
-    if p == q {
-        true
-    } else if q == r {
-        true
-    } else {
-        r == p
-    }
+    p == q || q == r || r == p
 }
 
 // Checks 10 and 11 of one facet, in this order.
+#[tactic(auto, unfolding(solids::specs::Admission::check_facet, solids::specs::Refusals::in_order))]
 fn check_facet(points: &[f64], corners: &[u32], f: usize) -> Verdict
     requires { f < length corners.now / 3 }
     ensures { result ≡ Ad.check_facet (So.lent points.entry corners.entry) f }
@@ -105,25 +88,20 @@ fn check_facet(points: &[f64], corners: &[u32], f: usize) -> Verdict
     let q = corners[3 * f + 1];
     let r = corners[3 * f + 2];
     if too_high(points.len() / 3, p, q, r) {
-        return Verdict::Refused(Answer::on_solid(10, f));
+        return Err(Refusal::TooHigh.on_solid(f));
     }
     if named_twice(p, q, r) {
-        return Verdict::Refused(Answer::on_solid(11, f));
+        return Err(Refusal::NamedTwice.on_solid(f));
     }
-    Verdict::Accepted
+    Ok(())
 }
 
 // Facet by facet: "the lower facet number wins".
 pub fn check_corners(points: &[f64], corners: &[u32]) -> Verdict
     ensures { result ≡ Ad.check_corners (So.lent points.entry corners.entry) }
 {
-    let mut f = 0;
-    while f < corners.len() / 3 {
-        let said = check_facet(points, corners, f);
-        if let Verdict::Refused(answer) = said {
-            return Verdict::Refused(answer);
-        }
-        f += 1;
+    for f in 0..corners.len() / 3 {
+        check_facet(points, corners, f)?;
     }
-    Verdict::Accepted
+    Ok(())
 }

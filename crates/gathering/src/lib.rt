@@ -1,10 +1,11 @@
 // How a crossing is gathered from its lower pairings: their sum, the first plus and the first minus.
 #![tactic(auto)]
 
-ghost use Rattle.std.specs.Prelude.{◌≡◌, true, false, cond, ◌+◌, ◌<◌, ◌≤◌, ◌^◌, pos, nat_abs, ◌+ℤ◌};
+ghost use Rattle.std.specs.Prelude.{◌≡◌, true, false, cond, ◌+◌, ◌<◌, ◌≤◌, ◌^◌, pos, nat_abs, ◌+ℤ◌, length};
 ghost use Rattle.list_words.specs.Lists.{nonzero};
 ghost use Rattle.points.specs.Points as P;
 ghost use Rattle.crossings.specs.Crossings as C;
+ghost use Rattle.gathering.specs.Words.{Small};
 
 use crossings::Crossing;
 use points::Axis;
@@ -84,4 +85,16 @@ impl Gather {
         let minus = self.minus;
         Crossing::Cross(n, points::placed(by, plus.points(), minus.points()))
     }
+}
+
+// The pairing whose lower pairings these are, each with its sign.
+pub fn paired(by: Axis, lower: &[Crossing]) -> Crossing
+    requires { Small lower.now × (length lower.now ≤ 8) }
+    ensures { result ≡ C.paired by lower.now }
+{
+    let mut gather = Gather::empty(by);
+    for c in lower.iter().rev() {
+        gather = gather.with(*c);
+    }
+    gather.finish()
 }

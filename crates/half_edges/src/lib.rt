@@ -31,6 +31,7 @@ fn put_half(p: u32, q: u32, numbers: &[u16; 16384], list: &mut [u32], at: usize)
 }
 
 // The three half-edges of facet f.
+#[tactic(auto, using(crate::proofs::Fill::put_three))]
 fn put_facet(corners: &[u32], f: usize, numbers: &[u16; 16384], list: &mut [u32], at: usize)
     requires { Sw.Low corners.now × (f < length corners.now / 3) × (at + 9 ≤ length list.old) }
     ensures { list.new ≡ sets list.old at (He.threes numbers.now (So.facet_half_edges (So.solid [] corners.now) f)) }
@@ -44,13 +45,12 @@ fn put_facet(corners: &[u32], f: usize, numbers: &[u16; 16384], list: &mut [u32]
 }
 
 // All half-edges, behind the first `at` numbers of the list; what stands elsewhere stays.
+#[tactic(auto, using(crate::proofs::Fill::put_none, crate::proofs::Fill::put_next, crate::proofs::Fill::all_counted))]
 pub fn put_halves(corners: &[u32], numbers: &[u16; 16384], list: &mut [u32], at: usize)
     requires { Sw.Low corners.now × (at + 9 * (length corners.now / 3) ≤ length list.old) }
     ensures { list.new ≡ sets list.old at (He.threes numbers.now (So.half_edges (So.solid [] corners.now))) }
 {
-    let mut f = 0;
-    while f < corners.len() / 3 {
+    for f in 0..corners.len() / 3 {
         put_facet(corners, f, numbers, list, at + 9 * f);
-        f += 1;
     }
 }

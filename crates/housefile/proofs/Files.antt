@@ -39,16 +39,16 @@ follows_within (vertex {bs = bs} {u = u} v e f) = reach bs (Vx v) e u (follows_w
 
 -- ---- and what stands behind them is not looked at
 facets_alone : {bs : List ℕ} {u : ℕ} {fs : List Three} → FacetsFollow bs u fs → (rest : List ℕ) → FacetsFollow (take u bs ++ rest) u fs
-facets_alone (end {bs = bs} e) rest = end (decoded_own bs En tt e rest)
+facets_alone (end {bs = bs} e) rest = end (decoded_own bs En e rest)
 facets_alone (facet {bs = bs} {u = u} {fs = fs} t e f) rest =
     let r = facet_record t in
-    facet t (record_alone bs r e u rest tt) (subst (λ l. FacetsFollow l u fs) (sym (behind_alone bs r e u rest)) (facets_alone f rest))
+    facet t (record_alone bs r e u rest) (subst (λ l. FacetsFollow l u fs) (sym (behind_alone bs r e u rest)) (facets_alone f rest))
 
 pub follows_alone : {bs : List ℕ} {u : ℕ} {vs : List Point} {fs : List Three} → Follows bs u vs fs
     → (rest : List ℕ) → Follows (take u bs ++ rest) u vs fs
 follows_alone (facets f) rest = facets (facets_alone f rest)
 follows_alone (vertex {bs = bs} {u = u} {vs = vs} {fs = fs} v e f) rest =
-    vertex v (record_alone bs (Vx v) e u rest tt) (subst (λ l. Follows l u vs fs) (sym (behind_alone bs (Vx v) e u rest)) (follows_alone f rest))
+    vertex v (record_alone bs (Vx v) e u rest) (subst (λ l. Follows l u vs fs) (sym (behind_alone bs (Vx v) e u rest)) (follows_alone f rest))
 
 -- ---- the bytes used are the records' own
 facets_bytes : {bs : List ℕ} {u : ℕ} {fs : List Three} → All Byte bs → FacetsFollow bs u fs → take u bs ≡ facet_bytes fs
@@ -68,13 +68,13 @@ follows_bytes all p (vertex {bs = bs} {u = u} {vs = vs} {fs = fs} v e f) =
 -- ---- and can be written
 facets_storable : {bs : List ℕ} {u : ℕ} {fs : List Three} → All Byte bs → FacetsFollow bs u fs → All (λ t. Storable (facet_record t)) fs
 facets_storable all (end e) = tt
-facets_storable all (facet {bs = bs} t e f) = (decoded_storable bs all (facet_record t) e tt, facets_storable (all_drop Byte 14 bs all) f)
+facets_storable all (facet {bs = bs} t e f) = (decoded_storable bs all (facet_record t) e, facets_storable (all_drop Byte 14 bs all) f)
 
 pub follows_storable : {bs : List ℕ} {u : ℕ} {vs : List Point} {fs : List Three} → All Byte bs → Follows bs u vs fs
     → All (λ v. Storable (Vx v)) vs × All (λ t. Storable (facet_record t)) fs
 follows_storable all (facets f) = (tt, facets_storable all f)
 follows_storable all (vertex {bs = bs} v e f) =
-    let (a, b) = follows_storable (all_drop Byte 26 bs all) f in ((decoded_storable bs all (Vx v) e tt, a), b)
+    let (a, b) = follows_storable (all_drop Byte 26 bs all) f in ((decoded_storable bs all (Vx v) e, a), b)
 
 -- ---- records written one after the other follow the grammar
 facets_written : (fs : List Three) → All (λ t. Storable (facet_record t)) fs

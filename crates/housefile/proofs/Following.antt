@@ -5,14 +5,15 @@ use Prim.Native.Nat.{ℕ, ◌+◌, ◌≤◌}
 use native.Mathlib.Omega.{arith}
 use lib.ListN.{length, take, drop, length-append, length-drop}
 use lib.Seq.{take-add, drop_at, length-take-le}
+use Rattle.std.specs.Prelude.{Some}
 use Rattle.list_words.proofs.Sums.{All}
 use Rattle.numbers.specs.Numbers.{Byte}
 use Rattle.housefile.specs.declared.Record.{Record}
 use Rattle.housefile.specs.Records.{size, decoded, encoded}
-use Rattle.housefile.proofs.Records.{Storable, Known, Present, size_within, decoded_own, length_encoded, behind_encoded, decoded_encoded, encoded_decoded}
+use Rattle.housefile.proofs.Records.{Storable, Present, size_within, decoded_own, length_encoded, behind_encoded, decoded_encoded, encoded_decoded}
 
 -- ---- a record that was read, and u bytes behind it
-module _ (bs : List ℕ) (r : Record) (e : decoded bs ≡ r) (u : ℕ) where
+module _ (bs : List ℕ) (r : Record) (e : decoded bs ≡ Some r) (u : ℕ) where
   pub reach : u ≤ length (drop (size r) bs) → size r + u ≤ length bs
   reach h = let s = size_within bs r e in let l = length-drop (size r) bs in omega arith
 
@@ -25,8 +26,8 @@ module _ (bs : List ℕ) (r : Record) (e : decoded bs ≡ r) (u : ℕ) where
     split : take (size r + u) bs ++ rest ≡ take (size r) bs ++ (take u (drop (size r) bs) ++ rest)
     split = rw take-add (append_assoc (take (size r) bs) (take u (drop (size r) bs)) rest)
 
-    pub record_alone : Known r → decoded (take (size r + u) bs ++ rest) ≡ r
-    record_alone k = ap decoded split ∙ decoded_own bs r k e (take u (drop (size r) bs) ++ rest)
+    pub record_alone : decoded (take (size r + u) bs ++ rest) ≡ Some r
+    record_alone = ap decoded split ∙ decoded_own bs r e (take u (drop (size r) bs) ++ rest)
 
     pub behind_alone : drop (size r) (take (size r + u) bs ++ rest) ≡ take u (drop (size r) bs) ++ rest
     behind_alone =
@@ -39,7 +40,7 @@ module _ (r : Record) (l : List ℕ) where
   length_put = length-append (encoded r) l ∙ ap (λ n. n + length l) (length_encoded r)
 
   module _ (rest : List ℕ) where
-    pub put_decoded : Storable r → decoded ((encoded r ++ l) ++ rest) ≡ r
+    pub put_decoded : Storable r → decoded ((encoded r ++ l) ++ rest) ≡ Some r
     put_decoded h = ap decoded (append_assoc (encoded r) l rest) ∙ decoded_encoded r h (l ++ rest)
 
     pub put_behind : drop (size r) ((encoded r ++ l) ++ rest) ≡ l ++ rest

@@ -5,10 +5,11 @@ use mathlib.Core.List.{List, [], ◌∷◌, ◌++◌, flat_map}
 use Prim.Native.Nat.{ℕ, zero, suc, ◌+◌}
 use lib.ListN.{length, drop}
 use lib.Ieee.{Float}
+use Rattle.std.specs.Prelude.{Option, Some, None}
 use Rattle.points.specs.declared.Point.{Point}
 use Rattle.points.specs.Points.{coordinates}
 use Rattle.housefile.specs.declared.Record.{Record}
-use Rattle.housefile.specs.declared.Record.TheVariants.{Vx, Fc, En, Fault}
+use Rattle.housefile.specs.declared.Record.TheVariants.{Vx, Fc, En}
 use Rattle.housefile.specs.Records.{decoded}
 use Rattle.housefile.specs.Reader.{Layout, fault, laid, after, records, layout}
 use Rattle.housefile.proofs.Steps.{layout_from, at_end, at_vertex, at_facet}
@@ -27,14 +28,14 @@ facet_record t = Fc t.0 t.1 t.2
 
 -- bs begin with the facets fs and the end, which take u bytes
 pub data FacetsFollow : List ℕ → ℕ → List Three → Type 0 where
-  end : {bs : List ℕ} → decoded bs ≡ En → FacetsFollow bs 2 []
-  facet : {bs : List ℕ} {u : ℕ} {fs : List Three} (t : Three) → decoded bs ≡ facet_record t
+  end : {bs : List ℕ} → decoded bs ≡ Some En → FacetsFollow bs 2 []
+  facet : {bs : List ℕ} {u : ℕ} {fs : List Three} (t : Three) → decoded bs ≡ Some (facet_record t)
       → FacetsFollow (drop 14 bs) u fs → FacetsFollow bs (14 + u) (t ∷ fs)
 
 -- bs begin with the vertices vs, the facets fs and the end, which take u bytes
 pub data Follows : List ℕ → ℕ → List Point → List Three → Type 0 where
   facets : {bs : List ℕ} {u : ℕ} {fs : List Three} → FacetsFollow bs u fs → Follows bs u [] fs
-  vertex : {bs : List ℕ} {u : ℕ} {vs : List Point} {fs : List Three} (v : Point) → decoded bs ≡ Vx v
+  vertex : {bs : List ℕ} {u : ℕ} {vs : List Point} {fs : List Three} (v : Point) → decoded bs ≡ Some (Vx v)
       → Follows (drop 26 bs) u vs fs → Follows bs (26 + u) (v ∷ vs) fs
 
 -- ---- bytes that follow it have that layout
@@ -56,13 +57,13 @@ Described true bs (laid u xs cs) = (fs : List Three) × FacetsFollow bs u fs × 
 Described false bs (laid u xs cs) =
     (vs : List Point) × (fs : List Three) × Follows bs u vs fs × (xs ≡ flat_map coordinates vs) × (cs ≡ flat_map corners_of fs)
 
-add_vertex : (bs : List ℕ) (v : Point) → decoded bs ≡ Vx v → (l : Layout) → Described false (drop 26 bs) l
+add_vertex : (bs : List ℕ) (v : Point) → decoded bs ≡ Some (Vx v) → (l : Layout) → Described false (drop 26 bs) l
     → Described false bs (after 26 (coordinates v) [] l)
 unfolding flat_map
 add_vertex bs v e fault d = tt
 add_vertex bs v e (laid u xs cs) (vs, fs, f, p, q) = (v ∷ vs, fs, vertex v e f, ap (λ l. coordinates v ++ l) p, q)
 
-add_facet : (bs : List ℕ) (t : Three) → decoded bs ≡ facet_record t → (l : Layout) → Described true (drop 14 bs) l
+add_facet : (bs : List ℕ) (t : Three) → decoded bs ≡ Some (facet_record t) → (l : Layout) → Described true (drop 14 bs) l
     → Described true bs (after 14 [] (corners_of t) l)
 unfolding flat_map
 add_facet bs t e fault d = tt
@@ -73,20 +74,20 @@ unfolding flat_map
 no_vertex bs fault d = tt
 no_vertex bs (laid u xs cs) (fs, f, p, q) = ([], fs, facets f, p, q)
 
-described : (n : ℕ) (b : Bool) (bs : List ℕ) (r : Record) → decoded bs ≡ r → Described b bs (records n b r bs)
+described : (n : ℕ) (b : Bool) (bs : List ℕ) (r : Option Record) → decoded bs ≡ r → Described b bs (records n b r bs)
 unfolding records flat_map
 described zero b bs r e = tt
-described (suc n) true bs En e = ([], end e, refl, refl)
-described (suc n) false bs En e = ([], [], facets (end e), refl, refl)
-described (suc n) b bs Fault e = tt
-described (suc n) true bs (Vx v) e = tt
-described (suc n) false bs (Vx v) e =
+described (suc n) true bs (Some En) e = ([], end e, refl, refl)
+described (suc n) false bs (Some En) e = ([], [], facets (end e), refl, refl)
+described (suc n) b bs None e = tt
+described (suc n) true bs (Some (Vx v)) e = tt
+described (suc n) false bs (Some (Vx v)) e =
     let rest = drop 26 bs in
     add_vertex bs v e (records n false (decoded rest) rest) (described n false rest (decoded rest) refl)
-described (suc n) true bs (Fc p q r) e =
+described (suc n) true bs (Some (Fc p q r)) e =
     let rest = drop 14 bs in
     add_facet bs (p, q, r) e (records n true (decoded rest) rest) (described n true rest (decoded rest) refl)
-described (suc n) false bs (Fc p q r) e =
+described (suc n) false bs (Some (Fc p q r)) e =
     let rest = drop 14 bs in
     let l = records n true (decoded rest) rest in
     no_vertex bs (after 14 [] (p ∷ q ∷ r ∷ []) l) (add_facet bs (p, q, r) e l (described n true rest (decoded rest) refl))

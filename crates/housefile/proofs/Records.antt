@@ -10,6 +10,7 @@ use lib.ListN.{length, take, drop, length-append, take-append-drop}
 use lib.Seq.{drop_at, take-add, length-take-le}
 use lib.Ieee.{Float, is_nan}
 use borrow.Author.Tests.{leb-true, eqb-true, le-leb, lt-leb, eq-eqb, ne_eqb}
+use Rattle.std.specs.Prelude.{Option, Some, None}
 use Rattle.list_words.proofs.Sums.{All, all-++, all_flat_map}
 use Rattle.list_words.proofs.Tests.{and_true}
 use Rattle.numbers.specs.Numbers.{Byte, F64, number, number_at, float_at, bytes, float_bytes}
@@ -17,7 +18,7 @@ use Rattle.numbers.proofs.Numbers.{length_bytes, all_bytes, all_float_bytes, num
 use Rattle.points.specs.declared.Point.{Point}
 use Rattle.points.specs.Points.{coordinates}
 use Rattle.housefile.specs.declared.Record.{Record}
-use Rattle.housefile.specs.declared.Record.TheVariants.{Vx, Fc, En, Fault}
+use Rattle.housefile.specs.declared.Record.TheVariants.{Vx, Fc, En}
 use Rattle.housefile.specs.Records.{mark_VX, mark_FC, mark_EN, size, decoded, encoded}
 
 -- ---- "`VX`", "`FC`", "`EN`": the marks are these letters
@@ -31,21 +32,12 @@ abbrev pub Storable : Record → Type 0
 Storable (Vx v) = All F64 (coordinates v)
 Storable (Fc p q r) = All (λ k. k < 256 ^ 4) (p ∷ q ∷ r ∷ [])
 Storable En = Unit {0}
-Storable Fault = ⊥
-
--- a record that the layout knows
-abbrev pub Known : Record → Type 0
-Known (Vx v) = Unit {0}
-Known (Fc p q r) = Unit {0}
-Known En = Unit {0}
-Known Fault = ⊥
 
 -- no blank among its coordinates
 abbrev pub Present : Record → Type 0
 Present (Vx v) = All (λ x. is_nan x ≡ false) (coordinates v)
 Present (Fc p q r) = Unit {0}
 Present En = Unit {0}
-Present Fault = Unit {0}
 
 -- ---- what decoding looks at
 abbrev pub vertex_at : List ℕ → Point
@@ -60,7 +52,11 @@ Begins bs (Vx v) = (number_at 0 2 bs ≡ number mark_VX) × (26 ≤ length bs) �
 Begins bs (Fc p q r) =
     (number_at 0 2 bs ≡ number mark_FC) × (14 ≤ length bs) × (p ≡ number_at 2 4 bs) × (q ≡ number_at 6 4 bs) × (r ≡ number_at 10 4 bs)
 Begins bs En = (number_at 0 2 bs ≡ number mark_EN) × (2 ≤ length bs)
-Begins bs Fault = Unit {0}
+
+-- and the record, if any, that is told of bs
+abbrev Told : List ℕ → Option Record → Type 0
+Told bs (Some r) = Begins bs r
+Told bs None = Unit {0}
 
 module _ (bs : List ℕ) where
   is_marked : (mark : List ℕ) (n : ℕ) → marked mark n bs ≡ true → (number_at 0 2 bs ≡ number mark) × (n ≤ length bs)
@@ -68,20 +64,20 @@ module _ (bs : List ℕ) where
       let (a, b) = and_true (eqb (number_at 0 2 bs) (number mark)) (leb n (length bs)) e in
       (eqb-true _ _ a, leb-true _ _ b)
 
-  begins : Begins bs (decoded bs)
+  begins : Told bs (decoded bs)
   unfolding decoded
   begins = go (marked mark_VX 26 bs) refl (marked mark_FC 14 bs) refl (marked mark_EN 2 bs) refl
     where
       go : (a : Bool) → marked mark_VX 26 bs ≡ a → (b : Bool) → marked mark_FC 14 bs ≡ b
-          → (c : Bool) → marked mark_EN 2 bs ≡ c → Begins bs (decoded bs)
+          → (c : Bool) → marked mark_EN 2 bs ≡ c → Told bs (decoded bs)
       go true e b f c g = rw (e, decoded) (let (m, n) = is_marked mark_VX 26 e in (m, n, refl))
       go false e true f c g = rw (e, f, decoded) (let (m, n) = is_marked mark_FC 14 f in (m, n, refl, refl, refl))
       go false e false f true g = rw (e, f, g, decoded) (is_marked mark_EN 2 g)
       go false e false f false g = rw (e, f, g, decoded) tt
 
   -- a record that was decoded is one that the bytes begin with
-  pub decoded_begins : (r : Record) → decoded bs ≡ r → Begins bs r
-  decoded_begins r e = subst (Begins bs) e begins
+  pub decoded_begins : (r : Record) → decoded bs ≡ Some r → Begins bs r
+  decoded_begins r e = subst (Told bs) e begins
 
   -- and the other way round
   marked_is : (mark : List ℕ) (n : ℕ) → number_at 0 2 bs ≡ number mark → n ≤ length bs → marked mark n bs ≡ true
@@ -100,28 +96,26 @@ module _ (bs : List ℕ) where
   pub other_mark : (mark : List ℕ) (n : ℕ) → (number_at 0 2 bs ≡ number mark → ⊥) → marked mark n bs ≡ false
   other_mark mark n d = rw (ne_eqb (number_at 0 2 bs) (number mark) d)
 
-  pub unmarked : marked mark_VX 26 bs ≡ false → marked mark_FC 14 bs ≡ false → marked mark_EN 2 bs ≡ false → decoded bs ≡ Fault
+  pub unmarked : marked mark_VX 26 bs ≡ false → marked mark_FC 14 bs ≡ false → marked mark_EN 2 bs ≡ false → decoded bs ≡ None
   unfolding decoded
   unmarked a b c = rw (a, b, c, decoded)
 
-  pub begins_decoded : (r : Record) → Known r → Begins bs r → decoded bs ≡ r
+  pub begins_decoded : (r : Record) → Begins bs r → decoded bs ≡ Some r
   unfolding decoded number
-  begins_decoded (Vx v) k b = rw (marked_is mark_VX 26 b.0 b.1, decoded) (ap Vx (sym b.2))
-  begins_decoded (Fc p q r) k b =
+  begins_decoded (Vx v) b = rw (marked_is mark_VX 26 b.0 b.1, decoded) (ap (λ v. Some (Vx v)) (sym b.2))
+  begins_decoded (Fc p q r) b =
       rw (marked_not mark_FC mark_VX 26 b.0 refl, marked_is mark_FC 14 b.0 b.1, b.2, b.3, b.4, decoded)
-  begins_decoded En k b =
+  begins_decoded En b =
       rw (marked_not mark_EN mark_VX 26 b.0 refl, marked_not mark_EN mark_FC 14 b.0 refl, marked_is mark_EN 2 b.0 b.1, decoded)
-  begins_decoded Fault k b = absurd k
 
   -- ---- how far a record reaches
-  pub size_within : (r : Record) → decoded bs ≡ r → size r ≤ length bs
+  pub size_within : (r : Record) → decoded bs ≡ Some r → size r ≤ length bs
   size_within r e = go r (decoded_begins r e)
     where
       go : (r : Record) → Begins bs r → size r ≤ length bs
       go (Vx v) b = b.1
       go (Fc p q r) b = b.1
       go En b = b.1
-      go Fault b = omega arith
 
 -- ---- a record is decoded from its own bytes alone
 module _ (front tail rest : List ℕ) where
@@ -148,15 +142,14 @@ module _ (front tail rest : List ℕ) where
     b.4 ∙ number_other 10 4 (omega arith),
   )
   begins_other En h b = (sym (number_other 0 2 (omega arith)) ∙ b.0, longer 2 h)
-  begins_other Fault h b = tt
 
-  decoded_other : (r : Record) → Known r → size r ≤ length front → decoded (front ++ tail) ≡ r → decoded (front ++ rest) ≡ r
-  decoded_other r k h e = begins_decoded (front ++ rest) r k (begins_other r h (decoded_begins (front ++ tail) r e))
+  decoded_other : (r : Record) → size r ≤ length front → decoded (front ++ tail) ≡ Some r → decoded (front ++ rest) ≡ Some r
+  decoded_other r h e = begins_decoded (front ++ rest) r (begins_other r h (decoded_begins (front ++ tail) r e))
 
 -- whatever stands behind those bytes
-pub decoded_own : (bs : List ℕ) (r : Record) → Known r → decoded bs ≡ r → (rest : List ℕ) → decoded (take (size r) bs ++ rest) ≡ r
-decoded_own bs r k e rest =
-    decoded_other (take (size r) bs) (drop (size r) bs) rest r k
+pub decoded_own : (bs : List ℕ) (r : Record) → decoded bs ≡ Some r → (rest : List ℕ) → decoded (take (size r) bs ++ rest) ≡ Some r
+decoded_own bs r e rest =
+    decoded_other (take (size r) bs) (drop (size r) bs) rest r
     (rw (length-take-le (size r) bs (size_within bs r e)) (omega arith))
     (ap decoded (take-append-drop (size r) bs) ∙ e)
 
@@ -166,7 +159,6 @@ unfolding encoded flat_map
 length_encoded (Vx v) = simp (length-append, length_float_bytes)
 length_encoded (Fc p q r) = simp (length-append, length_bytes)
 length_encoded En = refl
-length_encoded Fault = refl
 
 pub all_encoded : (r : Record) → All Byte (encoded r)
 unfolding encoded
@@ -175,7 +167,6 @@ all_encoded (Vx v) =
 all_encoded (Fc p q r) =
     (lit< tt, (lit< tt, all-++ Byte (bytes 4 p) (bytes 4 q ++ bytes 4 r) (all_bytes 4 p) (all-++ Byte (bytes 4 q) (bytes 4 r) (all_bytes 4 q) (all_bytes 4 r))))
 all_encoded En = (lit< tt, (lit< tt, tt))
-all_encoded Fault = tt
 
 pub behind_encoded : (r : Record) (rest : List ℕ) → drop (size r) (encoded r ++ rest) ≡ rest
 behind_encoded r rest = drop_at (encoded r) rest (size r) (length_encoded r)
@@ -228,16 +219,9 @@ encoded_begins (Fc p q r) h rest =
     let (ep, eq, er) = fc_there p q r h rest in
     (refl, room (Fc p q r) rest, sym ep, sym eq, sym er)
 encoded_begins En h rest = (refl, room En rest)
-encoded_begins Fault h rest = tt
 
-storable_known : (r : Record) → Storable r → Known r
-storable_known (Vx v) h = tt
-storable_known (Fc p q r) h = tt
-storable_known En h = tt
-storable_known Fault h = h
-
-pub decoded_encoded : (r : Record) → Storable r → (rest : List ℕ) → decoded (encoded r ++ rest) ≡ r
-decoded_encoded r h rest = begins_decoded (encoded r ++ rest) r (storable_known r h) (encoded_begins r h rest)
+pub decoded_encoded : (r : Record) → Storable r → (rest : List ℕ) → decoded (encoded r ++ rest) ≡ Some r
+decoded_encoded r h rest = begins_decoded (encoded r ++ rest) r (encoded_begins r h rest)
 
 -- ---- and back
 
@@ -283,23 +267,21 @@ module _ (bs : List ℕ) (all : All Byte bs) where
   begins_encoded (Vx v) h b = vx_encoded v h b
   begins_encoded (Fc p q r) h b = fc_encoded p q r b
   begins_encoded En h b = mark_at mark_EN refl b.0 b.1
-  begins_encoded Fault h b = refl
 
   -- so an accepted record is written again as it stood
-  pub encoded_decoded : (r : Record) → decoded bs ≡ r → Present r → take (size r) bs ≡ encoded r
+  pub encoded_decoded : (r : Record) → decoded bs ≡ Some r → Present r → take (size r) bs ≡ encoded r
   encoded_decoded r e h = begins_encoded r h (decoded_begins bs r e)
 
   -- and a record that was decoded can be written
-  pub decoded_storable : (r : Record) → decoded bs ≡ r → Known r → Storable r
-  decoded_storable r e k = go r (decoded_begins bs r e) k
+  pub decoded_storable : (r : Record) → decoded bs ≡ Some r → Storable r
+  decoded_storable r e = go r (decoded_begins bs r e)
     where
       small : (i k : ℕ) → i + 4 ≤ length bs → k ≡ number_at i 4 bs → k < 256 ^ 4
       small i k h e = subst (λ k. k < 256 ^ 4) (sym e) (number_at_lt i 4 bs all h)
 
-      go : (r : Record) → Begins bs r → Known r → Storable r
-      go (Vx v) b k = subst (λ w. Storable (Vx w)) (sym b.2) (float_fits 2 bs, (float_fits 10 bs, (float_fits 18 bs, tt)))
-      go (Fc p q r) b k =
+      go : (r : Record) → Begins bs r → Storable r
+      go (Vx v) b = subst (λ w. Storable (Vx w)) (sym b.2) (float_fits 2 bs, (float_fits 10 bs, (float_fits 18 bs, tt)))
+      go (Fc p q r) b =
           let n : 14 ≤ length bs = b.1 in
           (small 2 p (omega arith) b.2, (small 6 q (omega arith) b.3, (small 10 r (omega arith) b.4, tt)))
-      go En b k = tt
-      go Fault b k = k
+      go En b = tt

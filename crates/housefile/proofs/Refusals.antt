@@ -15,12 +15,10 @@ use Rattle.list_words.proofs.Sums.{All, all_map_of}
 use Rattle.list_words.proofs.Tests.{or-false}
 use Rattle.list_words.proofs.UpTo.{all_up_to}
 use Rattle.solids.specs.declared.Answer.{Answer}
-use Rattle.solids.specs.declared.Verdict.{Verdict}
-use Rattle.solids.specs.declared.Verdict.TheVariants.{Accepted, Refused}
-use Rattle.solids.specs.Refusals.{nobody, only_solid, answer, answer_of, no_refusal, on_solid, given, in_order, at_each}
+use Rattle.solids.specs.Refusals.{Verdict, accepted, nobody, only_solid, answer, answer_of, no_refusal, on_solid, given, in_order, at_each}
+use Rattle.std.specs.Prelude.{Ok, Err}
 use Rattle.solids.specs.Solids.{Solid, vertices, facets, vertex, half_edges, pairs}
-use Rattle.solids.specs.Admission.{uneven, too_many, blank, out_of_range, high, twice, differ}
-use Rattle.solids.specs.Admission.{check_lengths, check_sizes, check_blanks, check_limit, check_facet, check_corners, check_closure, admission}
+use Rattle.solids.specs.Admission.{uneven, too_many, blank, out_of_range, high, twice, differ, check_lengths, check_sizes, check_blanks, check_limit, check_facet, check_corners, check_closure, admission}
 use Rattle.solids.proofs.Checks.{all_accepted, accepted_all, not_given}
 use Rattle.housefile.specs.Reader.{Layout, Reading, fault, laid, layout, unread, reading, too_short, read_solid, by_layout, read}
 use Rattle.housefile.specs.Writer.{file, unwritten, writing, write}
@@ -46,27 +44,27 @@ module _ (bs : List ℕ) (ps : List Float) (cs : List ℕ) where
       read_then_8 e = read_checked ∙ rw (no_2, e)
 
       module _ (no_8 : too_short ps cs s ≡ false) where
-        pub read_then_3 : (a : Answer) → check_blanks s ≡ Refused a → read bs ps cs ≡ unread a ps cs
+        pub read_then_3 : (a : Answer) → check_blanks s ≡ Err a → read bs ps cs ≡ unread a ps cs
         unfolding read_solid in_order check_sizes
         read_then_3 a e =
             read_checked ∙ rw (no_2, no_8) (ap (λ v. reading (in_order (v ∷ check_limit s ∷ check_corners s ∷ check_closure s ∷ [])) used s ps cs) e)
 
-        module _ (no_3 : check_blanks s ≡ Accepted) where
-          pub read_then_4 : (a : Answer) → check_limit s ≡ Refused a → read bs ps cs ≡ unread a ps cs
+        module _ (no_3 : check_blanks s ≡ accepted) where
+          pub read_then_4 : (a : Answer) → check_limit s ≡ Err a → read bs ps cs ≡ unread a ps cs
           unfolding read_solid in_order check_sizes
           read_then_4 a e = read_checked ∙ rw (no_2, no_8, no_3, e)
 
-          module _ (no_4 : check_limit s ≡ Accepted) where
-            pub read_then_10_and_11 : (a : Answer) → check_corners s ≡ Refused a → read bs ps cs ≡ unread a ps cs
+          module _ (no_4 : check_limit s ≡ accepted) where
+            pub read_then_10_and_11 : (a : Answer) → check_corners s ≡ Err a → read bs ps cs ≡ unread a ps cs
             unfolding read_solid in_order check_sizes
             read_then_10_and_11 a e = read_checked ∙ rw (no_2, no_8, no_3, no_4, e)
 
-            module _ (no_10_and_11 : check_corners s ≡ Accepted) where
-              pub read_then_6 : (a : Answer) → check_closure s ≡ Refused a → read bs ps cs ≡ unread a ps cs
+            module _ (no_10_and_11 : check_corners s ≡ accepted) where
+              pub read_then_6 : (a : Answer) → check_closure s ≡ Err a → read bs ps cs ≡ unread a ps cs
               unfolding read_solid in_order check_sizes
               read_then_6 a e = read_checked ∙ rw (no_2, no_8, no_3, no_4, no_10_and_11, e)
 
-              pub read_else : check_closure s ≡ Accepted
+              pub read_else : check_closure s ≡ accepted
                   → read bs ps cs
                   ≡ record {
                     answer = no_refusal;
@@ -81,11 +79,11 @@ module _ (bs : List ℕ) (ps : List Float) (cs : List ℕ) where
 
 -- ---- the writer
 module _ (s : Solid) (lent : List ℕ) where
-  pub write_first : (n : Answer) → admission s ≡ Refused n → write s lent ≡ unwritten n lent
+  pub write_first : (n : Answer) → admission s ≡ Err n → write s lent ≡ unwritten n lent
   unfolding write in_order
   write_first n e = rw e
 
-  module _ (fine : admission s ≡ Accepted) where
+  module _ (fine : admission s ≡ accepted) where
     pub write_then_8 : length lent < length (file s) → write s lent ≡ unwritten (answer_of 8) lent
     unfolding write in_order
     write_then_8 h = rw (fine, lt-ltb (length lent) (length (file s)) h)
@@ -104,8 +102,8 @@ read_refusal bs ps cs = by_case (layout bs)
     Plain r = r ≡ record { answer = r.answer; vertices = 0; facets = 0; used = 0; points = ps; corners = cs }
 
     checked : (v : Verdict) (used : ℕ) (s : Solid) → (reading v used s ps cs).answer.number ≢ 0 → Plain (reading v used s ps cs)
-    checked Accepted used s d = absurd (d refl)
-    checked (Refused n) used s d = refl
+    checked (Ok u) used s d = absurd (d refl)
+    checked (Err n) used s d = refl
 
     by_case : (l : Layout) → (by_layout l ps cs).answer.number ≢ 0 → Plain (by_layout l ps cs)
     by_case fault d = refl
@@ -118,18 +116,18 @@ write_refusal s lent = by_case (in_order (admission s ∷ given (answer_of 8) (l
   where
     by_case : (v : Verdict) → (writing v (file s) lent).answer.number ≢ 0
         → writing v (file s) lent ≡ record { answer = (writing v (file s) lent).answer; used = 0; bytes = lent }
-    by_case Accepted d = absurd (d refl)
-    by_case (Refused n) d = refl
+    by_case (Ok u) d = absurd (d refl)
+    by_case (Err n) d = refl
 
 -- ---- answer 0 is success: no check refuses with the number 0
 abbrev pub Numbered : Verdict → Type 0
-Numbered v = (answer v).number ≡ 0 → v ≡ Accepted
+Numbered v = (answer v).number ≡ 0 → v ≡ accepted
 
 pub in_order_numbered : (vs : List Verdict) → All Numbered vs → Numbered (in_order vs)
 unfolding in_order
 in_order_numbered [] a e = refl
-in_order_numbered (Accepted ∷ vs) a e = in_order_numbered vs a.1 e
-in_order_numbered (Refused n ∷ vs) a e = a.0 e
+in_order_numbered (Ok u ∷ vs) a e = in_order_numbered vs a.1 e
+in_order_numbered (Err n ∷ vs) a e = a.0 e
 
 pub given_numbered : (n who place : ℕ) (b : Bool) → Numbered (given record { number = suc n; who = who; place = place } b)
 unfolding answer
@@ -170,22 +168,22 @@ module _ (s : Solid) where
       (given_numbered 1 only_solid 0 (too_many s), (given_numbered 7 nobody 0 (too_short ps cs s), later_numbered))
 
 pub read_success : (bs : List ℕ) (ps : List Float) (cs : List ℕ) → (read bs ps cs).answer.number ≡ 0
-    → (used : ℕ) × (s : Solid) × (layout bs ≡ laid used s.points s.corners) × (read_solid s ps cs ≡ Accepted)
+    → (used : ℕ) × (s : Solid) × (layout bs ≡ laid used s.points s.corners) × (read_solid s ps cs ≡ accepted)
 unfolding read answer
 read_success bs ps cs = by_case (layout bs)
   where
     checked : (v : Verdict) (used : ℕ) (s : Solid) → (reading v used s ps cs).answer.number ≡ 0 → (answer v).number ≡ 0
-    checked Accepted used s e = refl
-    checked (Refused n) used s e = e
+    checked (Ok u) used s e = refl
+    checked (Err n) used s e = e
 
     by_case : (l : Layout) → (by_layout l ps cs).answer.number ≡ 0
-        → (used : ℕ) × (s : Solid) × (l ≡ laid used s.points s.corners) × (read_solid s ps cs ≡ Accepted)
+        → (used : ℕ) × (s : Solid) × (l ≡ laid used s.points s.corners) × (read_solid s ps cs ≡ accepted)
     by_case fault e = absurd (omega arith)
     by_case (laid used xs ds) e =
         let s : Solid = record { points = xs; corners = ds } in
         (used, s, refl, read_solid_numbered s ps cs (checked (read_solid s ps cs) used s e))
 
-pub write_success : (s : Solid) (lent : List ℕ) → (write s lent).answer.number ≡ 0 → (admission s ≡ Accepted) × (length (file s) ≤ length lent)
+pub write_success : (s : Solid) (lent : List ℕ) → (write s lent).answer.number ≡ 0 → (admission s ≡ accepted) × (length (file s) ≤ length lent)
 unfolding write answer
 write_success s lent e =
     let numbered = in_order_numbered checks (admission_numbered s, (given_numbered 7 nobody 0 (ltb (length lent) (length (file s))), tt)) in
@@ -196,8 +194,8 @@ write_success s lent e =
     checks = admission s ∷ given (answer_of 8) (ltb (length lent) (length (file s))) ∷ []
 
     checked : (v : Verdict) → (writing v (file s) lent).answer.number ≡ 0 → (answer v).number ≡ 0
-    checked Accepted e = refl
-    checked (Refused n) e = e
+    checked (Ok u) e = refl
+    checked (Err n) e = e
 
 -- ---- the reader's checks and admission: of lists of whole threes they differ by 8 alone
 pub even : (s : Solid) → length s.points % 3 ≡ 0 → length s.corners % 3 ≡ 0 → uneven s ≡ false
@@ -219,13 +217,13 @@ module _ (s : Solid) (ps : List Float) (cs : List ℕ) where
   unfolding admission read_solid check_lengths check_sizes in_order
   read_as_admission e1 e2 e8 = rw (e1, e2, e8)
 
-  pub admitted_read : admission s ≡ Accepted → too_short ps cs s ≡ false → read_solid s ps cs ≡ Accepted
+  pub admitted_read : admission s ≡ accepted → too_short ps cs s ≡ false → read_solid s ps cs ≡ accepted
   unfolding admission read_solid
   admitted_read e h =
       let (c1, (c2, (c3, (c4, (c5, (c6, end)))))) = all_accepted _ e in
       accepted_all _ (c2, (ap (given (answer_of 8)) h, (c3, (c4, (c5, (c6, tt))))))
 
-  pub read_admitted : uneven s ≡ false → read_solid s ps cs ≡ Accepted → (admission s ≡ Accepted) × (too_short ps cs s ≡ false)
+  pub read_admitted : uneven s ≡ false → read_solid s ps cs ≡ accepted → (admission s ≡ accepted) × (too_short ps cs s ≡ false)
   unfolding admission read_solid check_lengths
   read_admitted w e =
       let (c2, (c8, (c3, (c4, (c5, (c6, end)))))) = all_accepted _ e in

@@ -12,8 +12,7 @@ use Rattle.list_words.specs.Lists.{onto}
 use Rattle.list_words.proofs.Sums.{All, all_of, all_flat_map, all_of_flat_map}
 use Rattle.numbers.specs.Numbers.{Byte, F64}
 use Rattle.points.specs.Points.{coordinates}
-use Rattle.solids.specs.Refusals.{no_refusal}
-use Rattle.solids.specs.declared.Verdict.TheVariants.{Accepted}
+use Rattle.solids.specs.Refusals.{no_refusal, accepted}
 use Rattle.solids.specs.Solids.{Solid, vertices, facets}
 use Rattle.solids.specs.Admission.{admission}
 use Rattle.solids.proofs.Admitted.{passed}
@@ -26,7 +25,7 @@ use Rattle.housefile.proofs.Shown.{Shows, shown, shown_whole, shown_file, storab
 use Rattle.housefile.proofs.Refusals.{read_checked, write_else, read_success, write_success, even, long_enough, not_too_short, admitted_read, read_admitted}
 
 -- ---- written, then read
-module _ (s : Solid) (fine : admission s ≡ Accepted) (held : All F64 s.points) where
+module _ (s : Solid) (fine : admission s ≡ accepted) (held : All F64 s.points) where
   pub layout_written : (rest : List ℕ) → layout (file s ++ rest) ≡ laid (length (file s)) s.points s.corners
   layout_written rest =
       let p = passed s fine in
@@ -36,7 +35,7 @@ module _ (s : Solid) (fine : admission s ≡ Accepted) (held : All F64 s.points)
       ∙ ap₂ (laid (length (file s))) (sym h.points) (sym h.corners)
 
   module _ (ps : List Float) (cs : List ℕ) (room_points : length s.points ≤ length ps) (room_corners : length s.corners ≤ length cs) where
-    pub written_then_read : (rest : List ℕ) → read (file s ++ rest) ps cs ≡ reading Accepted (length (file s)) s ps cs
+    pub written_then_read : (rest : List ℕ) → read (file s ++ rest) ps cs ≡ reading accepted (length (file s)) s ps cs
     written_then_read rest =
         read_checked (file s ++ rest) ps cs (length (file s)) s (layout_written rest)
         ∙ ap (λ v. reading v (length (file s)) s ps cs) (admitted_read s ps cs fine (long_enough s ps cs room_points room_corners))
@@ -44,10 +43,10 @@ module _ (s : Solid) (fine : admission s ≡ Accepted) (held : All F64 s.points)
 -- the bytes that a call of the writer left, lent bytes behind the file and all
 pub write_then_read : (s : Solid) (lent : List ℕ) → (write s lent).answer.number ≡ 0 → All F64 s.points
     → (ps : List Float) (cs : List ℕ) → length s.points ≤ length ps → length s.corners ≤ length cs
-    → read (write s lent).bytes ps cs ≡ reading Accepted (write s lent).used s ps cs
+    → read (write s lent).bytes ps cs ≡ reading accepted (write s lent).used s ps cs
 write_then_read s lent z held ps cs hp hc =
     let (fine, h) = write_success s lent z in
-    subst (λ (w : Writing). read w.bytes ps cs ≡ reading Accepted w.used s ps cs) (sym (write_else s lent fine h))
+    subst (λ (w : Writing). read w.bytes ps cs ≡ reading accepted w.used s ps cs) (sym (write_else s lent fine h))
     (written_then_read s fine held ps cs hp hc (drop (length (file s)) lent))
 
 -- ---- what a reading leaves in the lent lists' fronts
@@ -55,7 +54,7 @@ whole : (n : ℕ) → n % 3 ≡ 0 → n ≡ 3 * (n / 3)
 whole n h = omega arith
 
 pub solid_back : (used : ℕ) (s : Solid) (ps : List Float) (cs : List ℕ) → length s.points % 3 ≡ 0 → length s.corners % 3 ≡ 0
-    → solid_read (reading Accepted used s ps cs) ≡ s
+    → solid_read (reading accepted used s ps cs) ≡ s
 solid_back used s ps cs p c = λ i. record {
   points = take_at s.points (drop (length s.points) ps) (3 * vertices s) (whole (length s.points) p) i;
   corners = take_at s.corners (drop (length s.corners) cs) (3 * facets s) (whole (length s.corners) c) i;
@@ -76,11 +75,11 @@ pub record AcceptedFile (bs : List ℕ) (ps : List Float) (cs : List ℕ) : Type
   pub used : ℕ
   pub solid : Solid
   pub follows : layout bs ≡ laid used solid.points solid.corners
-  pub admitted : admission solid ≡ Accepted
+  pub admitted : admission solid ≡ accepted
   pub held : All F64 solid.points
   pub room_points : length solid.points ≤ length ps
   pub room_corners : length solid.corners ≤ length cs
-  pub reads : read bs ps cs ≡ reading Accepted used solid ps cs
+  pub reads : read bs ps cs ≡ reading accepted used solid ps cs
   pub left : solid_read (read bs ps cs) ≡ solid
   pub within : used ≤ length bs
   pub bytes : file solid ≡ take used bs

@@ -13,7 +13,7 @@ use Rattle.numbers.specs.Numbers.{Byte, F64}
 use Rattle.points.specs.declared.Point.{Point}
 use Rattle.points.specs.declared.Axis.TheVariants.{X, Y, Z}
 use Rattle.points.specs.Points.{coordinate, coordinates, zero_number as O}
-use Rattle.solids.specs.declared.Verdict.TheVariants.{Accepted}
+use Rattle.solids.specs.Refusals.{accepted}
 use Rattle.solids.specs.Solids.{Solid, vertices, facets, vertex, corner}
 use Rattle.solids.specs.Admission.{admission}
 use Rattle.solids.proofs.Admitted.{Proper, Passed, passed}
@@ -113,7 +113,7 @@ module _ (s : Solid) (vs : List Point) (fs : List Three) (h : Shows s vs fs) whe
   pub storable_vertices : All F64 s.points → All (λ v. Storable (Vx v)) vs
   storable_vertices a = all_of_flat_map F64 coordinates vs (subst (All F64) h.points a)
 
-  pub storable_facets : admission s ≡ Accepted → All (λ t. Storable (facet_record t)) fs
+  pub storable_facets : admission s ≡ accepted → All (λ t. Storable (facet_record t)) fs
   storable_facets e = each_laid c0 c1 c2 fs s h.corners (λ p q r. Storable (Fc p q r)) (λ f l. small (p.proper f l))
     where
       p : Passed s

@@ -1,16 +1,14 @@
 -- Document 01, "House file": the layout of a file, and the reader with its refusals and the lent lists afterwards.
-use Rattle.std.specs.Prelude.{ℕ, zero, suc, ◌+◌, ◌≡◌, Bool, true, false, ◌||◌, List, [], ◌∷◌, ◌++◌, length, drop, ltb, Float}
+use Rattle.std.specs.Prelude.{ℕ, zero, suc, ◌+◌, ◌≡◌, Bool, true, false, ◌||◌, List, [], ◌∷◌, ◌++◌, length, drop, ltb, Float, Option, Some, None, Ok, Err}
 use Rattle.list_words.specs.Lists.{onto}
 use Rattle.points.specs.Points.{coordinates}
 use Rattle.solids.specs.declared.Answer.{Answer}
-use Rattle.solids.specs.declared.Verdict.{Verdict}
-use Rattle.solids.specs.declared.Verdict.TheVariants.{Accepted, Refused}
-use Rattle.solids.specs.Refusals.{answer_of, no_refusal, given, in_order}
+use Rattle.solids.specs.Refusals.{Verdict, answer_of, no_refusal, given, in_order}
 use Rattle.solids.specs.Solids.{Solid, vertices, facets}
 use Rattle.solids.specs.Admission.{check_sizes, check_blanks, check_limit, check_corners, check_closure}
 use Rattle.housefile.specs.declared.Read.{Read}
 use Rattle.housefile.specs.declared.Record.{Record}
-use Rattle.housefile.specs.declared.Record.TheVariants.{Vx, Fc, En, Fault}
+use Rattle.housefile.specs.declared.Record.TheVariants.{Vx, Fc, En}
 use Rattle.housefile.specs.Records.{size, decoded}
 
 -- ---- the layout
@@ -24,17 +22,17 @@ abbrev pub after : ℕ → List Float → List ℕ → Layout → Layout
 after n xs cs fault = fault
 after n xs cs (laid used ys ds) = laid (n + used) (xs ++ ys) (cs ++ ds)
 
--- The layout of bs, which begins with the record r: "each record begins where the one before it ended"; "All VX come before all FC", so a VX is a fault
+-- The layout of bs, which begins with the record r, if with any: "each record begins where the one before it ended"; "All VX come before all FC", so a VX is a fault
 -- once an FC came. The first number bounds how many records are looked at: a file has fewer records than bytes.
-unfoldable pub records : ℕ → Bool → Record → List ℕ → Layout
+unfoldable pub records : ℕ → Bool → Option Record → List ℕ → Layout
 records zero facets_begun r bs = fault
-records (suc n) facets_begun En bs = laid (size En) [] []
-records (suc n) facets_begun Fault bs = fault
-records (suc n) true (Vx v) bs = fault
-records (suc n) false (Vx v) bs =
+records (suc n) facets_begun (Some En) bs = laid (size En) [] []
+records (suc n) facets_begun None bs = fault
+records (suc n) true (Some (Vx v)) bs = fault
+records (suc n) false (Some (Vx v)) bs =
     let rest = drop (size (Vx v)) bs in
     after (size (Vx v)) (coordinates v) [] (records n false (decoded rest) rest)
-records (suc n) facets_begun (Fc p q r) bs =
+records (suc n) facets_begun (Some (Fc p q r)) bs =
     let rest = drop (size (Fc p q r)) bs in
     after (size (Fc p q r)) [] (p ∷ q ∷ r ∷ []) (records n true (decoded rest) rest)
 
@@ -56,13 +54,17 @@ pub record Reading : Type 0 where
 abbrev pub outcome : Read → List Float → List ℕ → Reading
 outcome r ps cs = record { answer = r.answer; vertices = r.vertices; facets = r.facets; used = r.used; points = ps; corners = cs }
 
+-- what a call answers that refuses
+abbrev pub nothing_read : Answer → Read
+nothing_read a = record { answer = a; vertices = 0; facets = 0; used = 0 }
+
 abbrev pub unread : Answer → List Float → List ℕ → Reading
 unread a ps cs = record { answer = a; vertices = 0; facets = 0; used = 0; points = ps; corners = cs }
 
 abbrev pub reading : Verdict → ℕ → Solid → List Float → List ℕ → Reading
-reading Accepted used s ps cs =
+reading (Ok u) used s ps cs =
     record { answer = no_refusal; vertices = vertices s; facets = facets s; used = used; points = onto s.points ps; corners = onto s.corners cs }
-reading (Refused a) used s ps cs = unread a ps cs
+reading (Err a) used s ps cs = unread a ps cs
 
 -- 8: "a lent list is too short for the answer"
 unfoldable pub too_short : List Float → List ℕ → Solid → Bool

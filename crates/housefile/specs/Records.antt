@@ -1,10 +1,10 @@
 -- Document 01, "House file": the marks, and the record that some bytes begin with. The one place that knows a record's layout.
-use Rattle.std.specs.Prelude.{ℕ, true, false, ◌&&◌, length, leb, eqb}
+use Rattle.std.specs.Prelude.{ℕ, true, false, ◌&&◌, length, leb, eqb, Option, Some, None}
 use mathlib.Core.List.{List, [], ◌∷◌, ◌++◌, flat_map}
 use Rattle.numbers.specs.Numbers.{number, number_at, float_at, bytes, float_bytes}
 use Rattle.points.specs.Points.{coordinates}
 use Rattle.housefile.specs.declared.Record.{Record}
-use Rattle.housefile.specs.declared.Record.TheVariants.{Vx, Fc, En, Fault}
+use Rattle.housefile.specs.declared.Record.TheVariants.{Vx, Fc, En}
 
 -- "a two-byte mark": `VX`, `FC`, `EN`
 abbrev pub mark_VX : List ℕ
@@ -21,19 +21,18 @@ abbrev pub size : Record → ℕ
 size (Vx v) = 26
 size (Fc p q r) = 14
 size En = 2
-size Fault = 0
 
--- "`VX`: three f64 bit patterns. `FC`: three 4-byte vertex numbers. `EN`: nothing more, the end."
-unfoldable pub decoded : List ℕ → Record
+-- "`VX`: three f64 bit patterns. `FC`: three 4-byte vertex numbers. `EN`: nothing more, the end." Other bytes begin with no record.
+unfoldable pub decoded : List ℕ → Option Record
 decoded bs =
     let mark = number_at 0 2 bs in
     let n = length bs in
     elim (eqb mark (number mark_VX) && leb 26 n) [
-      | true ↦ Vx (record { x = float_at 2 bs; y = float_at 10 bs; z = float_at 18 bs })
+      | true ↦ Some (Vx (record { x = float_at 2 bs; y = float_at 10 bs; z = float_at 18 bs }))
       | false ↦
           elim (eqb mark (number mark_FC) && leb 14 n) [
-            | true ↦ Fc (number_at 2 4 bs) (number_at 6 4 bs) (number_at 10 4 bs)
-            | false ↦ elim (eqb mark (number mark_EN) && leb 2 n) [ true ↦ En | false ↦ Fault ]
+            | true ↦ Some (Fc (number_at 2 4 bs) (number_at 6 4 bs) (number_at 10 4 bs))
+            | false ↦ elim (eqb mark (number mark_EN) && leb 2 n) [ true ↦ Some En | false ↦ None ]
           ]
     ]
 
@@ -42,4 +41,3 @@ unfoldable pub encoded : Record → List ℕ
 encoded (Vx v) = mark_VX ++ flat_map float_bytes (coordinates v)
 encoded (Fc p q r) = mark_FC ++ (bytes 4 p ++ (bytes 4 q ++ bytes 4 r))
 encoded En = mark_EN
-encoded Fault = []

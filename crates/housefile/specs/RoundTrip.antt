@@ -4,8 +4,7 @@ use Rattle.std.specs.Prelude.{ℕ, ◌*◌, ◌≤◌, ◌≡◌, length, take, 
 use mathlib.Core.List.{List, ◌++◌, Memᴰ}
 use Rattle.list_words.specs.Lists.{onto}
 use Rattle.numbers.specs.Numbers.{Byte, F64}
-use Rattle.solids.specs.declared.Verdict.TheVariants.{Accepted}
-use Rattle.solids.specs.Refusals.{no_refusal}
+use Rattle.solids.specs.Refusals.{accepted, no_refusal}
 use Rattle.solids.specs.Solids.{Solid, vertices, facets}
 use Rattle.solids.specs.Admission.{admission}
 use Rattle.housefile.specs.Reader.{Reading, laid, layout, read}
@@ -17,7 +16,7 @@ solid_read r = record { points = take (3 * r.vertices) r.points; corners = take 
 
 pub record RoundTrip : Type 0 where
   -- an admitted solid's file, whatever stands behind it, is read as that solid, given room
-  pub written_then_read : (s : Solid) → admission s ≡ Accepted → ((x : Float) → Memᴰ x s.points → F64 x)
+  pub written_then_read : (s : Solid) → admission s ≡ accepted → ((x : Float) → Memᴰ x s.points → F64 x)
       → (rest : List ℕ) (ps : List Float) (cs : List ℕ) → length s.points ≤ length ps → length s.corners ≤ length cs
       → read (file s ++ rest) ps cs
       ≡ record {

@@ -1,11 +1,9 @@
 -- Document 01, "House file": the writer with its refusals and the lent bytes afterwards.
-use Rattle.std.specs.Prelude.{ℕ, ◌≡◌, length, ltb}
+use Rattle.std.specs.Prelude.{ℕ, ◌≡◌, length, ltb, Ok, Err}
 use mathlib.Core.List.{List, [], ◌∷◌, ◌++◌, flat_map}
 use Rattle.list_words.specs.Lists.{up_to, onto}
 use Rattle.solids.specs.declared.Answer.{Answer}
-use Rattle.solids.specs.declared.Verdict.{Verdict}
-use Rattle.solids.specs.declared.Verdict.TheVariants.{Accepted, Refused}
-use Rattle.solids.specs.Refusals.{answer_of, no_refusal, given, in_order}
+use Rattle.solids.specs.Refusals.{Verdict, answer_of, no_refusal, given, in_order}
 use Rattle.solids.specs.Solids.{Solid, vertices, facets, vertex, corner}
 use Rattle.solids.specs.Admission.{admission}
 use Rattle.housefile.specs.declared.Written.{Written}
@@ -27,12 +25,16 @@ pub record Writing : Type 0 where
 abbrev pub outcome : Written → List ℕ → Writing
 outcome r bs = record { answer = r.answer; used = r.used; bytes = bs }
 
+-- what a call answers that refuses
+abbrev pub nothing_written : Answer → Written
+nothing_written a = record { answer = a; used = 0 }
+
 abbrev pub unwritten : Answer → List ℕ → Writing
 unwritten a old = record { answer = a; used = 0; bytes = old }
 
 abbrev pub writing : Verdict → List ℕ → List ℕ → Writing
-writing Accepted new old = record { answer = no_refusal; used = length new; bytes = onto new old }
-writing (Refused a) new old = unwritten a old
+writing (Ok u) new old = record { answer = no_refusal; used = length new; bytes = onto new old }
+writing (Err a) new old = unwritten a old
 
 -- "The writer checks 1 to 6, then 8."
 unfoldable pub write : Solid → List ℕ → Writing

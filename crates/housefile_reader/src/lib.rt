@@ -1,7 +1,7 @@
 // The reader: one walk over a file's records, which keeps as much as an admitted solid can have; then the checks; then the lent lists.
 #![tactic(auto)]
 
-ghost use Rattle.std.specs.Prelude.{◌≡◌, [], ◌∷◌, ◌+◌, ◌≤◌, ◌<◌, ◌^◌, length};
+ghost use Rattle.std.specs.Prelude.{◌≡◌, [], ◌∷◌, ◌+◌, ◌≤◌, ◌<◌, ◌^◌, length, OnOk};
 ghost use Rattle.points.specs.Points.{coordinates};
 ghost use Rattle.solids.specs.Solids as So;
 ghost use Rattle.housefile.specs.Records as Rc;
@@ -10,54 +10,51 @@ ghost use Rattle.housefile_reader.specs.Words as Hr;
 
 use housefile::{Read, Record};
 use points::Point;
-use solids::{Answer, Verdict};
+use solids::{Answer, Refusal, Verdict};
 
-// How far a reader has walked over a file's records: whether there are more to come, whether the layout is broken, the bytes walked over and
-// how many vertices and facets stood there.
+// How far a reader has walked over a file's records: the bytes walked over and how many vertices and facets stood there.
 #[derive(Clone, Copy)]
 pub struct Walk {
-    pub going: bool,
-    pub fault: bool,
     pub used: usize,
     pub vertices: usize,
     pub facets: usize,
 }
 
-// The walk, one record further. "All VX come before all FC", so a vertex behind a facet breaks the layout.
-#[tactic(auto, unfolding(crate::specs::Words::stepped))]
-fn step(found: Record, w: Walk) -> Walk
-    requires { (w.vertices ≤ w.used) × (w.facets ≤ w.used) × (w.used + Rc.size found < 2 ^ 64) }
-    ensures { result ≡ Hr.stepped found w }
-{
-    match found {
-        Record::Vx(_) => Walk {
-            going: w.facets == 0,
-            fault: 0 < w.facets,
-            used: w.used + 26,
-            vertices: w.vertices + 1,
-            facets: w.facets,
-        },
-        Record::Fc(_, _, _) => Walk {
-            going: true,
-            fault: false,
-            used: w.used + 14,
-            vertices: w.vertices,
-            facets: w.facets + 1,
-        },
-        Record::En => Walk {
-            going: false,
-            fault: false,
-            used: w.used + 2,
-            vertices: w.vertices,
-            facets: w.facets,
-        },
-        Record::Fault => Walk {
-            going: false,
-            fault: true,
-            used: w.used,
-            vertices: w.vertices,
-            facets: w.facets,
-        },
+impl Walk {
+    // The walk, one record further. "All VX come before all FC", so there is none past a vertex behind a facet.
+    #[tactic(auto, unfolding(crate::specs::Words::stepped))]
+    fn past(self, found: Record) -> Option<Walk>
+        requires { (self.vertices ≤ self.used) × (self.facets ≤ self.used) × (self.used + Rc.size found < 2 ^ 64) }
+        ensures { result ≡ Hr.stepped found self }
+    {
+        match found {
+            Record::Vx(_) if self.facets > 0 => None,
+            Record::Vx(_) => Some(Walk {
+                used: self.used + 26,
+                vertices: self.vertices + 1,
+                ..self
+            }),
+            Record::Fc(..) => Some(Walk {
+                used: self.used + 14,
+                facets: self.facets + 1,
+                ..self
+            }),
+            Record::En => Some(Walk {
+                used: self.used + 2,
+                ..self
+            }),
+        }
+    }
+
+    // 2: more than an admitted solid has. Not all of that is kept, and these numbers tell it.
+    pub fn check_sizes(self) -> Verdict
+        ensures said { result ≡ Hr.check_many self }
+        ensures few { OnOk result ((self.vertices ≤ 128) × (self.facets ≤ 256)) }
+    {
+        if self.vertices > 128 || self.facets > 256 {
+            return Err(Refusal::TooMany.on_solid(0));
+        }
+        Ok(())
     }
 }
 
@@ -87,62 +84,27 @@ fn keep(found: Record, w: Walk, points: &mut [f64; 384], corners: &mut [u32; 768
         Record::Vx(v) => keep_vertex(points, w.vertices, v),
         Record::Fc(p, q, r) => keep_facet(corners, w.facets, p, q, r),
         Record::En => {}
-        Record::Fault => {}
     }
 }
 
-// The whole layout: "each record begins where the one before it ended".
-pub fn scan(bytes: &[u8], points: &mut [f64; 384], corners: &mut [u32; 768]) -> Walk
+// The whole layout: "each record begins where the one before it ended". `None` where it is broken.
+pub fn scan(bytes: &[u8], points: &mut [f64; 384], corners: &mut [u32; 768]) -> Option<Walk>
     requires { (length points.old ≡ 384) × (length corners.old ≡ 768) }
     ensures scanned { Hr.Scanned (Re.layout bytes.now) result points.new corners.new }
     ensures points_len { (length points.new ≡ 384) × (length corners.new ≡ 768) }
 {
     let mut w = Walk {
-        going: true,
-        fault: false,
         used: 0,
         vertices: 0,
         facets: 0,
     };
-    while w.going {
-        let at = w.used;
-        let found = housefile_records::decode(&bytes[at..]);
+    loop {
+        let found = housefile_records::decode(&bytes[w.used..])?;
         keep(found, w, points, corners);
-        w = step(found, w);
-    }
-    w
-}
-
-// The checks that look at numbers alone, in the reader's order: 9, then 2, then 8.
-fn refusal(w: Walk, room_points: usize, room_corners: usize) -> Verdict
-    ensures { result ≡ Hr.refusal w room_points room_corners }
-{
-    if w.fault {
-        return Verdict::Refused(Answer::NO_LAYOUT);
-    }
-    if w.vertices > 128 {
-        return Verdict::Refused(Answer::TOO_MANY);
-    }
-    if w.facets > 256 {
-        return Verdict::Refused(Answer::TOO_MANY);
-    }
-    if room_points < 3 * w.vertices {
-        return Verdict::Refused(Answer::TOO_SHORT);
-    }
-    if room_corners < 3 * w.facets {
-        return Verdict::Refused(Answer::TOO_SHORT);
-    }
-    Verdict::Accepted
-}
-
-fn refused(answer: Answer) -> Read
-    ensures { result ≡ Hr.unread answer }
-{
-    Read {
-        answer,
-        vertices: 0,
-        facets: 0,
-        used: 0,
+        w = w.past(found)?;
+        if let Record::En = found {
+            return Some(w);
+        }
     }
 }
 
@@ -153,37 +115,37 @@ fn hand_over(
     used: usize,
     points: &mut [f64],
     corners: &mut [u32],
-) -> Read
+) -> Result<Read, Answer>
     requires { (length from_points.now ≤ length points.old) × (length from_corners.now ≤ length corners.old) }
-    ensures { Re.outcome result points.new corners.new ≡ Hr.handed_over (So.lent from_points.entry from_corners.entry) used points.old corners.old }
+    ensures { Re.outcome (Hr.answered result) points.new corners.new ≡ Hr.handed_over (So.lent from_points.entry from_corners.entry) used points.old corners.old }
 {
-    let said = admission::admit(from_points, from_corners);
-    if let Verdict::Refused(n) = said {
-        return refused(n);
-    }
-    list_stores::copy_points(from_points, points);
-    list_stores::copy_corners(from_corners, corners);
-    Read {
+    admission::admit(from_points, from_corners)?;
+    list_stores::copy_front(from_points, points);
+    list_stores::copy_front(from_corners, corners);
+    Ok(Read {
         answer: Answer::SUCCESS,
         vertices: from_points.len() / 3,
         facets: from_corners.len() / 3,
         used,
-    }
+    })
 }
 
 // The checks 9, 2, 8, then 3 to 6; the lent lists stay as they are before all have passed.
-pub fn read(bytes: &[u8], points: &mut [f64], corners: &mut [u32]) -> Read
-    ensures { Re.ReadFile bytes.now points.old corners.old (result, (points.new, corners.new)) }
+fn checked(bytes: &[u8], points: &mut [f64], corners: &mut [u32]) -> Result<Read, Answer>
+    ensures { Re.outcome (Hr.answered result) points.new corners.new ≡ Re.read bytes.now points.old corners.old }
 {
+    // Arrays of the most that may be kept, since the library takes no memory from the heap.
     let mut kept_points = [0.0f64; 384];
     let mut kept_corners = [0u32; 768];
-    let w = scan(bytes, &mut kept_points, &mut kept_corners);
-    let said = refusal(w, points.len(), corners.len());
-    if let Verdict::Refused(n) = said {
-        return refused(n);
-    }
+    let Some(w) = scan(bytes, &mut kept_points, &mut kept_corners) else {
+        return Err(Refusal::NoLayout.on_nobody());
+    };
+    w.check_sizes()?;
     let n = 3 * w.vertices;
     let m = 3 * w.facets;
+    if points.len() < n || corners.len() < m {
+        return Err(Refusal::TooShort.on_nobody());
+    }
     hand_over(
         &kept_points[..n],
         &kept_corners[..m],
@@ -191,4 +153,10 @@ pub fn read(bytes: &[u8], points: &mut [f64], corners: &mut [u32]) -> Read
         points,
         corners,
     )
+}
+
+pub fn read(bytes: &[u8], points: &mut [f64], corners: &mut [u32]) -> Read
+    ensures { Re.ReadFile bytes.now points.old corners.old (result, (points.new, corners.new)) }
+{
+    checked(bytes, points, corners).unwrap_or_else(Read::from)
 }

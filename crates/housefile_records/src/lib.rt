@@ -27,38 +27,26 @@ fn corner_at(bytes: &[u8], at: usize) -> u32
     in_bytes::number_at(bytes, at, 4) as u32
 }
 
-// The record that a file, or the rest of one, begins with.
-pub fn decode(bytes: &[u8]) -> Record
+// The record that a file, or the rest of one, begins with; `None` where the layout knows none.
+pub fn decode(bytes: &[u8]) -> Option<Record>
     ensures { result ≡ Rc.decoded bytes.now }
 {
     if bytes.len() < 2 {
-        return Record::Fault;
+        return None;
     }
-    let mark = in_bytes::number_at(bytes, 0, 2);
-    if mark == VX {
-        if bytes.len() < 26 {
-            return Record::Fault;
-        }
-        return Record::Vx(Point {
+    match in_bytes::number_at(bytes, 0, 2) {
+        VX if bytes.len() >= 26 => Some(Record::Vx(Point {
             x: in_bytes::float_at(bytes, 2),
             y: in_bytes::float_at(bytes, 10),
             z: in_bytes::float_at(bytes, 18),
-        });
-    }
-    if mark == FC {
-        if bytes.len() < 14 {
-            return Record::Fault;
-        }
-        return Record::Fc(
+        })),
+        FC if bytes.len() >= 14 => Some(Record::Fc(
             corner_at(bytes, 2),
             corner_at(bytes, 6),
             corner_at(bytes, 10),
-        );
-    }
-    if mark == EN {
-        Record::En
-    } else {
-        Record::Fault
+        )),
+        EN => Some(Record::En),
+        _ => None,
     }
 }
 

@@ -4,19 +4,18 @@ use mathlib.Core.List.{List}
 use Prim.Native.Nat.{ℕ, ◌+◌, ◌-◌, ◌<◌, ◌≤◌}
 use native.Mathlib.Omega.{arith}
 use native.Mathlib.Decide.{dec_lt}
-use lib.Ieee.{Float}
 use lib.IntN.{ℤ, pos, nat_abs}
 use lib.ListN.{length, get_or, set, get_or-eq_default}
 use lib.Seq.{get_or-set_same, get_or-set_other}
 use Rattle.solids.specs.Solids.{Solid, vertices}
 use Rattle.results.specs.declared.Operation.{Operation}
 use Rattle.results.specs.Inclusion.{inclusion, vA, vB}
-use Rattle.inclusions.specs.declared.Side.{Side}
+use Rattle.inclusions.specs.declared.side.Side.{Side}
 use Rattle.inclusions.specs.Words.{Included, weight, Weighed}
 
-module _ (q : Side) (own : List Float) (other : Solid) where
-  pub weighed_next : (old new : List ℤ) (i : ℕ) (v : ℤ) → q.at + i < length new → v ≡ weight q own other i → nat_abs v ≤ 257 → Weighed q own other old new i
-      → Weighed q own other old (set new (q.at + i) v) (i + 1)
+module _ (q : Side) where
+  pub weighed_next : (old new : List ℤ) (i : ℕ) (v : ℤ) → q.at + i < length new → v ≡ weight q i → nat_abs v ≤ 257 → Weighed q old new i
+      → Weighed q old (set new (q.at + i) v) (i + 1)
   weighed_next old new i v r e small w =
       let same = get_or-set_same new (q.at + i) v (pos 0) r in
       let kept : (x : ℕ) → x < i → get_or (set new (q.at + i) v) (q.at + x) (pos 0) ≡ get_or new (q.at + x) (pos 0) = λ x h. get_or-set_other new (q.at + i) (q.at + x) v (pos 0) (λ e. absurd (omega (arith, e, h))) in
@@ -34,8 +33,8 @@ module _ (q : Side) (own : List Float) (other : Solid) where
 
 -- ---- A's vertices, then B's
 module _ (op : Operation) (a b : Solid) (q r : Side) {old mid new : List ℤ} (first : q.at ≡ 0) (second : r.at ≡ vertices a) where
-  pub weighed_both : ((i : ℕ) → weight q a.points b i ≡ inclusion op a b (vA i)) → ((i : ℕ) → weight r b.points a i ≡ inclusion op a b (vB i))
-      → length new ≡ vertices a + vertices b → Weighed q a.points b old mid (vertices a) → Weighed r b.points a mid new (vertices b) → Included op a b new
+  pub weighed_both : ((i : ℕ) → weight q i ≡ inclusion op a b (vA i)) → ((i : ℕ) → weight r i ≡ inclusion op a b (vB i))
+      → length new ≡ vertices a + vertices b → Weighed q old mid (vertices a) → Weighed r mid new (vertices b) → Included op a b new
   weighed_both of_a of_b long w v =
       let at_a : (i : ℕ) → q.at + i ≡ i = λ i. omega (arith, first) in
       let kept : (i : ℕ) → i < vertices a → get_or new i (pos 0) ≡ get_or mid i (pos 0) = λ i l. v.before i (omega (arith, l, second)) in

@@ -14,16 +14,15 @@ use results::End;
 fn join(ends: &[End], list: &mut [u32], mut c: Counts) -> Counts
     ensures { (list.new ≡ (Je.all_placed (list.old, c) ends.now).0) × (result ≡ (Je.all_placed (list.old, c) ends.now).1) }
 {
-    let mut i = 0;
-    while i < ends.len() {
-        c = placed_ends::place_end(list, c, ends[i]);
-        i += 1;
+    for end in ends {
+        c = placed_ends::place_end(list, c, *end);
     }
     c
 }
 
 // The first n of the gathered ends are lent to it. No reference to a record is in this contract, so callers need not know of the loan. An array is passed
-// by value, so it is short: who has more ends gives them eight at a time, with the counts of those before.
+// by value, so it is short: who has more ends gives them eight at a time, with the counts of those before. It is an array with a length, and no slice,
+// since docs/DECISIONS.md has it so: request 2026-04 orders the ends in `join_at` before they are lent.
 pub fn join_first(all: [End; 8], n: usize, list: &mut [u32], c: Counts) -> Counts
     requires { n ≤ 8 }
     ensures { (list.new ≡ (Je.all_placed (list.old, c) (take n all)).0) × (result ≡ (Je.all_placed (list.old, c) (take n all)).1) }

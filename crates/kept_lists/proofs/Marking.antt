@@ -40,26 +40,18 @@ many_others z x h a b = elim (dec_lt x z.fa) [
   | no n ↦ let k : z.fa ≤ x = omega arith in let l : 3 * z.fa ≤ h = omega arith in rw (le-ltb _ _ k, le-ltb _ _ l)
 ]
 
--- every row, and every half-edge of every facet, so far
+-- every row, and every half-edge, so far
 pub record RowsSoFar (z : Sizes) (first crossed l : List ℕ) (n : ℕ) : Type 0 where
   pub each : (r : ℕ) → r < n → Listed z first crossed l r (get_or first (r + 1) 0)
 
-pub record FacetsSoFar (z : Sizes) (hs old l : List ℕ) (n : ℕ) : Type 0 where
-  pub each : (x h : ℕ) → x < n → 3 * x ≤ h → h < 3 * x + 3 → Spread z hs old l x h (others z x)
+pub record HalvesSoFar (z : Sizes) (hs old l : List ℕ) (n : ℕ) : Type 0 where
+  pub each : (x h : ℕ) → h < n → 3 * x ≤ h → h < 3 * x + 3 → Spread z hs old l x h (others z x)
 
-pub facets_more : {z : Sizes} {hs old l l₁ l₂ l₃ : List ℕ} {n : ℕ} → FacetsSoFar z hs old l n → More old l → More l l₁ → More l₁ l₂ → More l₂ l₃
-    → Spread z hs l l₁ n (3 * n) (others z n) → Spread z hs l₁ l₂ n (3 * n + 1) (others z n) → Spread z hs l₂ l₃ n (3 * n + 2) (others z n) → FacetsSoFar z hs old l₃ (n + 1)
-facets_more {z} {hs} {old} {l} {l₁} {l₂} {l₃} {n} f m₀ m₁ m₂ m₃ s₁ s₂ s₃ = record {
-  each = λ x h k a b. elim (dec_lt x n) [
-    | yes i ↦ spread_more (more_then m₁ (more_then m₂ m₃)) (f.each x h i a b)
-    | no j ↦
-        let e : x ≡ n = omega arith in
-        elim (dec_lt h (3 * n + 1)) [
-          | yes p ↦ let q : h ≡ 3 * n = omega arith in rw (e, q) (spread_more (more_then m₂ m₃) (spread_old m₀ s₁))
-          | no o ↦ elim (dec_lt h (3 * n + 2)) [
-            | yes p ↦ let q : h ≡ 3 * n + 1 = omega arith in rw (e, q) (spread_more m₃ (spread_old (more_then m₀ m₁) s₂))
-            | no p ↦ let q : h ≡ 3 * n + 2 = omega arith in rw (e, q) (spread_old (more_then m₀ (more_then m₁ m₂)) s₃)
-          ]
-        ]
+pub halves_more : {z : Sizes} {hs old l l' : List ℕ} {n x : ℕ} → HalvesSoFar z hs old l n → More old l → More l l' → 3 * x ≤ n → n < 3 * x + 3 → Spread z hs l l' x n (others z x)
+    → HalvesSoFar z hs old l' (n + 1)
+halves_more {n = n} {x} f m m' p q s = record {
+  each = λ y h k a b. elim (dec_lt h n) [
+    | yes i ↦ spread_more m' (f.each y h i a b)
+    | no j ↦ let e : h ≡ n = omega arith in let d : y ≡ x = omega arith in rw (e, d) (spread_old m s)
   ];
 }

@@ -3,41 +3,35 @@ ghost use Rattle.std.specs.Prelude.{◌≡◌, true, ◌<◌, ◌≤◌, nat_abs
 ghost use Rattle.list_words.specs.Lists.{nonzero};
 ghost use Rattle.layouts.specs.Words as La;
 
+#[tactic(auto, unfolding(crate::specs::Words::packed))]
 pub fn packed(column: usize, n: i32) -> u32
     requires { (column < 65536) × (nat_abs n ≤ 2) × (nonzero n ≡ true) }
     ensures { result ≡ La.packed (column, n) }
 {
     let there = 4 * column as u32;
-    if n == 2 {
-        return there + 3;
+    match n {
+        2 => there + 3,
+        1 => there + 2,
+        -1 => there + 1,
+        _ => there,
     }
-    if n == 1 {
-        return there + 2;
-    }
-    if n == -1 {
-        return there + 1;
-    }
-    there
 }
 
+#[tactic(auto, unfolding(crate::specs::Words::column))]
 pub fn column(x: u32) -> usize
     ensures { result ≡ La.column x }
 {
     (x / 4) as usize
 }
 
+#[tactic(auto, unfolding(crate::specs::Words::inclusion))]
 pub fn inclusion(x: u32) -> i32
     ensures { result ≡ La.inclusion x }
 {
-    let k = x % 4;
-    if k == 3 {
-        return 2;
+    match x % 4 {
+        3 => 2,
+        2 => 1,
+        1 => -1,
+        _ => -2,
     }
-    if k == 2 {
-        return 1;
-    }
-    if k == 1 {
-        return -1;
-    }
-    -2
 }

@@ -37,26 +37,10 @@ pub fn put_point(v: Point, list: &mut [f64], at: usize)
     list[at + 2] = v.z;
 }
 
-// A list copied into the front of another: once for coordinates, once for corner numbers, since a function has one type of list. Both proofs
-// cite the same laws.
-pub fn copy_points(from: &[f64], to: &mut [f64])
+// A list copied into the front of another.
+pub fn copy_front<T: Copy>(from: &[T], to: &mut [T])
     requires { length from.now ≤ length to.old }
     ensures { to.new ≡ onto from.now to.old }
 {
-    let mut i = 0;
-    while i < from.len() {
-        to[i] = from[i];
-        i += 1;
-    }
-}
-
-pub fn copy_corners(from: &[u32], to: &mut [u32])
-    requires { length from.now ≤ length to.old }
-    ensures { to.new ≡ onto from.now to.old }
-{
-    let mut i = 0;
-    while i < from.len() {
-        to[i] = from[i];
-        i += 1;
-    }
+    to[..from.len()].copy_from_slice(from);
 }

@@ -11,3 +11,4 @@ pub mod Numbering
 pub mod Searches
 pub mod Places
 pub mod Widths
+pub mod Handed

@@ -3,7 +3,7 @@ use mathlib.Core.Path.{◌≡◌, refl, sym, ap, ◌∙◌, subst}
 use mathlib.Core.Logic.{◌≢◌}
 use mathlib.Core.Bool.{Bool, true, false, ◌||◌}
 use mathlib.Core.List.{List}
-use Prim.Native.Nat.{ℕ, zero, suc, ◌+◌, ◌-◌, ◌*◌, ◌/◌, ◌%◌, ◌^◌, ◌<◌, ◌≤◌, max}
+use Prim.Native.Nat.{ℕ, zero, suc, ◌+◌, ◌-◌, ◌*◌, ◌/◌, ◌%◌, ◌^◌, ◌<◌, ◌≤◌, max, min}
 use native.Mathlib.Nat.{zero-div, div-one, pow-suc, pow-succ', div-div-eq-div-mul, mul-mod_left, div-lt_iff_lt-mul, zero-lt-suc, pow-le-pow_right, lt_of_le_of_lt, lt_of_lt_of_le}
 use native.Mathlib.Omega.{arith}
 use native.Mathlib.Decide.{dec_lt, ℕ_discrete}
@@ -144,26 +144,17 @@ module _ (l : List ℕ) (at : ℕ) where
             absurd (omega arith)
       ]
 
-      pub first_small : at + first < 64 * (at / 64) + 64
-      first_small = omega (arith, inside)
-
       clear_first : Clear l from end (at + first)
       clear_first = clear_to first (omega (arith, inside)) (λ d h. tz_even 64 rest_of d h)
 
-      pub next_in : from ≤ at → at + first < end → Next l from end (at + first)
-      next_in low h =
+      pub next_at : from ≤ at → from ≤ end → Next l from end (min end (at + first))
+      next_at low h =
           record {
             low = omega arith;
             high = omega arith;
-            clear = λ i a b. clear_first i a b (omega arith);
-            found = λ k. in_word first inside ∙ ap (λ n. eqb n 1) odd;
+            clear = λ i a b. clear_first i a (omega arith) (omega arith);
+            found = λ k. let e : min end (at + first) ≡ at + first = omega arith in rw e (in_word first inside ∙ ap (λ n. eqb n 1) odd);
           }
-
-      pub next_out : from ≤ end → end ≤ at + first → Next l from end end
-      next_out low h = record { low = low; high = omega arith; clear = λ i a b. clear_first i a (omega arith) b; found = λ k. absurd (omega arith) }
-
-    pub next_none : from ≤ end → end ≤ at → Next l from end end
-    next_none low h = record { low = low; high = omega arith; clear = λ i a b. clear i a (omega arith) b; found = λ k. absurd (omega arith) }
 
 -- ---- four words of which none has a digit
 or_zero : (a b : ℕ) → bit_or a b ≡ 0 → (a ≡ 0) × (b ≡ 0)

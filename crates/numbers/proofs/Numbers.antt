@@ -1,13 +1,14 @@
 -- Numbers as bytes, there and back: a number that fits, the bytes themselves, and an f64 with every bit but a NaN's.
-use mathlib.Core.Path.{◌≡◌, refl, ap, ap₂, ◌∙◌, subst}
+use mathlib.Core.Path.{◌≡◌, refl, sym, ap, ap₂, ◌∙◌, subst}
 use mathlib.Core.Bool.{true, false}
-use mathlib.Core.List.{List, [], ◌∷◌, ◌++◌}
+use mathlib.Core.List.{List, [], ◌∷◌, ◌++◌, append_assoc, append-nil}
 use Prim.Native.Nat.{ℕ, zero, suc, ◌+◌, ◌-◌, ◌*◌, ◌/◌, ◌%◌, ◌^◌, ◌<◌, ◌≤◌}
 use native.Mathlib.Nat.{mod-lt, mod-add-div, lt_of_lt_of_le, pow-le-pow_right}
 use native.Mathlib.Omega.{arith}
 use lib.Dec.{lit<}
-use lib.ListN.{length, get_or, set, take, drop, length-drop}
-use lib.Seq.{sets, drop-cons, take_at, drop_at, take-append-le, drop-append-le, length-take-le}
+use lib.ListN.{length, set, take, drop, length-drop, length-append}
+use Rattle.std.proofs.lemmas.List.{take_more_set}
+use lib.Seq.{take_all, take_at, drop_at, take-append-le, drop-append-le, length-take-le}
 use lib.Ieee.{Float, nan, inf, fin, binary64, of_bits, to_bits, is_nan, div}
 use lib.Ieee.Bits.{of_bits-to_bits, to_bits-lt, of_bits-fits, to_bits-of_bits}
 use Rattle.list_words.proofs.Sums.{All, all_take, all_drop}
@@ -85,37 +86,67 @@ bytes_at i n bs a h =
     subst (λ k. bytes k (number (take n (drop i bs))) ≡ take n (drop i bs)) (length_part i n bs h)
     (bytes_number (take n (drop i bs)) (all_take Byte n (drop i bs) (all_drop Byte i bs a)))
 
--- ---- read from the last byte to the first
-module _ (at n i : ℕ) (bs : List ℕ) (some : 0 < i) (within : i ≤ n) (room : at + n ≤ length bs) where
-  pub number_before : number_at (at + (i - 1)) (n - (i - 1)) bs ≡ get_or bs (at + (i - 1)) 0 + 256 * number_at (at + i) (n - i) bs
-  unfolding number_at number
-  number_before =
-      let e : n - (i - 1) ≡ suc (n - i) = omega arith in
-      let f : at + i ≡ suc (at + (i - 1)) = omega arith in
-      let h : at + (i - 1) < length bs = omega arith in
-      rw (e, f, drop-cons bs (at + (i - 1)) 0 h)
+-- up to 8 bytes
+fits_8 : (n : ℕ) {k : ℕ} → n ≤ 8 → k < 256 ^ n → k < 2 ^ 64
+fits_8 n {k} h l = lt_of_lt_of_le l (pow-le-pow_right (lit< tt) h)
 
-  pub before_lt : {b k : ℕ} → b < 256 → k < 256 ^ (n - i) → b + 256 * k < 256 ^ (n - (i - 1))
-  before_lt {b} {k} h l =
-      let e : n - (i - 1) ≡ suc (n - i) = omega arith in
-      rw e (grown (n - i) b k h l)
+-- ---- read from the last byte to the first
+-- the number of some bytes with a number behind them
+unfoldable pub behind : List ℕ → ℕ → ℕ
+behind [] k = k
+behind (b ∷ bs) k = b + 256 * behind bs k
+
+behind_none : (bs : List ℕ) → behind bs 0 ≡ number bs
+unfolding behind number
+behind_none [] = refl
+behind_none (b ∷ bs) = ap (λ k. b + 256 * k) (behind_none bs)
+
+behind_last : (bs : List ℕ) (b k : ℕ) → behind (bs ++ (b ∷ [])) k ≡ behind bs (b + 256 * k)
+unfolding behind
+behind_last [] b k = refl
+behind_last (x ∷ bs) b k = ap (λ m. x + 256 * m) (behind_last bs b k)
+
+-- of the n bytes from place at on, `rest` is left to read, and what was read behind it gives k
+pub record Read (at n : ℕ) (bs rest : List ℕ) (k : ℕ) : Type 0 where
+  pub within : length rest ≤ n
+  pub small : k < 256 ^ (n - length rest)
+  pub value : behind rest k ≡ number_at at n bs
+
+module _ (at n : ℕ) (bs : List ℕ) where
+  pub read_none : (rest : List ℕ) → at + n ≤ length bs → rest ≡ take (at + n - at) (drop at bs) → Read at n bs rest 0
+  unfolding number_at
+  read_none rest h e =
+      let m : at + n - at ≡ n = omega arith in
+      let f : rest ≡ take n (drop at bs) = e ∙ ap (λ k. take k (drop at bs)) m in
+      let g : n - length rest ≡ 0 = omega (arith, ap length f, length_part at n bs h) in
+      record { within = omega (arith, ap length f, length_part at n bs h); small = rw g (lit< tt); value = behind_none rest ∙ ap number f }
+
+  module _ {rest : List ℕ} {k : ℕ} (r : Read at n bs rest k) where
+    pub read_next : (left : List ℕ) (b : ℕ) → b < 256 → rest ≡ left ++ (b ∷ []) → Read at n bs left (b + 256 * k)
+    read_next left b h e =
+        let m = ap length e ∙ length-append left (b ∷ []) in
+        let d : n - length left ≡ suc (n - length rest) = omega (arith, r.within) in
+        record { within = omega (arith, r.within); small = rw d (grown (n - length rest) b k h r.small); value = sym (behind_last left b k) ∙ ap (λ l. behind l k) (sym e) ∙ r.value }
+
+    pub read_fits : (left : List ℕ) (b : ℕ) → b < 256 → rest ≡ left ++ (b ∷ []) → n ≤ 8 → b + 256 * k < 2 ^ 64
+    read_fits left b h e few = fits_8 (n - length left) (omega arith) (read_next left b h e).small
+
+  pub read_all : (rest : List ℕ) {k : ℕ} → Read at n bs rest k → length rest ≡ 0 → (k ≡ number_at at n bs) × (k < 256 ^ n)
+  unfolding behind
+  read_all [] r e = (r.value, let h : n - 0 ≡ n = omega arith in rw h at r.small)
+  read_all (b ∷ l) r e = absurd (omega arith)
 
 -- ---- stored from the first byte to the last: what is left to store
-module _ (l : List ℕ) (at n i rest : ℕ) where
-  pub left_to_put : i < n → sets (set l (at + i) (rest % 256)) (at + (i + 1)) (bytes (n - (i + 1)) (rest / 256)) ≡ sets l (at + i) (bytes (n - i) rest)
-  unfolding bytes
-  left_to_put h =
-      let e : n - i ≡ suc (n - (i + 1)) = omega arith in
-      let f : at + (i + 1) ≡ suc (at + i) = omega arith in
-      rw (e, f)
+pub left_to_put : (l : List ℕ) (n i rest : ℕ) → i < n → length l ≡ n
+    → take (i + 1) (set l i (rest % 256)) ++ bytes (n - (i + 1)) (rest / 256) ≡ take i l ++ bytes (n - i) rest
+unfolding bytes
+left_to_put l n i rest h e =
+    let f : n - i ≡ suc (n - (i + 1)) = omega arith in
+    rw (f, take_more_set l i (rest % 256) (omega arith)) (append_assoc (take i l) (rest % 256 ∷ []) (bytes (n - (i + 1)) (rest / 256)))
 
-  pub all_put : n ≤ i → sets l (at + i) (bytes (n - i) rest) ≡ l
-  unfolding bytes
-  all_put h = let e : n - i ≡ 0 = omega arith in rw e
-
--- up to 8 bytes
-pub fits_8 : (n : ℕ) {k : ℕ} → n ≤ 8 → k < 256 ^ n → k < 2 ^ 64
-fits_8 n {k} h l = lt_of_lt_of_le l (pow-le-pow_right (lit< tt) h)
+pub all_put : (l : List ℕ) (n i rest : ℕ) → n ≤ i → length l ≡ n → take i l ++ bytes (n - i) rest ≡ l
+unfolding bytes
+all_put l n i rest h e = let f : n - i ≡ 0 = omega arith in rw (f, take_all i l (omega arith)) (append-nil l)
 
 -- ---- f64
 pub length_float_bytes : (x : Float) → length (float_bytes x) ≡ 8

@@ -8,7 +8,7 @@ pub fn digit(n: usize) -> u8
     requires { n < 10 }
     ensures { result ≡ 0x30 + n }
 {
-    48 + n as u8
+    b'0' + n as u8
 }
 
 // A number's digits from a place on. Answers the place behind them.

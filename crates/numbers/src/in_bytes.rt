@@ -13,15 +13,14 @@ pub fn number_at(bytes: &[u8], at: usize, n: usize) -> u64
     ensures small { result < 256 ^ n }
 {
     let mut number: u64 = 0;
-    let mut i = n;
-    while 0 < i {
-        i -= 1;
-        number = (bytes[at + i] as u64) + 256 * number;
+    for byte in bytes[at..at + n].iter().rev() {
+        number = (*byte as u64) + 256 * number;
     }
     number
 }
 
 // The f64 in 8 bytes from a place on; whatever a NaN's pattern, a NaN.
+#[tactic(auto, unfolding(crate::specs::Numbers::float_at))]
 pub fn float_at(bytes: &[u8], at: usize) -> f64
     requires { at + 8 ≤ length bytes.now }
     ensures { result ≡ Nu.float_at at bytes.now }
@@ -35,14 +34,13 @@ pub fn put_number(number: u64, n: usize, bytes: &mut [u8], at: usize)
     ensures { bytes.new ≡ sets bytes.old at (Nu.bytes n number) }
 {
     let mut rest = number;
-    let mut i = 0;
-    while i < n {
-        bytes[at + i] = (rest % 256) as u8;
-        rest = rest / 256;
-        i += 1;
+    for byte in bytes[at..at + n].iter_mut() {
+        *byte = (rest % 256) as u8;
+        rest /= 256;
     }
 }
 
+#[tactic(auto, unfolding(crate::specs::Numbers::float_bytes))]
 pub fn put_float(x: f64, bytes: &mut [u8], at: usize)
     requires { (at + 8 ≤ length bytes.old) × (is_nan x ≡ false) }
     ensures { bytes.new ≡ sets bytes.old at (Nu.float_bytes x) }

@@ -1,18 +1,14 @@
--- Words of contracts; no public statement needs them. What each check looks for in a bound, and the checks on all six.
-use Rattle.std.specs.Prelude.{Bool, [], ◌∷◌}
+-- Words of contracts; no public statement needs them. What a test computes of a bound, and the checks on all six.
+use Rattle.std.specs.Prelude.{Bool, ◌≡◌, [], ◌∷◌}
 use Rattle.list_words.specs.Lists.{any}
-use Rattle.solids.specs.declared.Verdict.{Verdict}
-use Rattle.solids.specs.Refusals.{answer_of, given, in_order}
+use Rattle.solids.specs.Refusals.{Verdict, answer_of, given, in_order}
 use Rattle.outage_rows.specs.declared.Bound.{Bound}
 use Rattle.outage_rows.specs.declared.Row.{Row}
 use Rattle.outage_rows.specs.Bounds.{bounds_of, missing, too_far, present, bounds, not_below}
-use Rattle.outage_bounds.specs.declared.Fault.{Fault}
-use Rattle.outage_bounds.specs.declared.Fault.TheVariants.{Missing, TooFar, Present}
 
-abbrev pub has : Fault → Bound → Bool
-has Missing = missing
-has TooFar = too_far
-has Present = present
+-- each answer that a test may give of a bound is what p says of it
+abbrev pub Computes : (Bound → Bool → Type 0) → (Bound → Bool) → Type 0
+Computes Gives p = (b : Bound) (said : Bool) → Gives b said → said ≡ p b
 
 unfoldable pub check_bounds : Row → Verdict
 check_bounds r =

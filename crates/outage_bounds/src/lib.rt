@@ -1,44 +1,53 @@
 // What may stand in a row's bounds, and the bounds that they give.
 #![tactic(auto)]
 
-ghost use Rattle.std.specs.Prelude.{◌≡◌, ◌||◌, not};
+ghost use Rattle.std.specs.Prelude.{◌≡◌, Bool, ◌||◌};
 ghost use Rattle.std.specs.Float.Ieee.{lt};
 ghost use Rattle.list_words.specs.Lists.{any};
+ghost use Rattle.outage_rows.specs.declared.Bound.{Bound};
 ghost use Rattle.outage_rows.specs.Bounds as Bn;
 ghost use Rattle.outage_bounds.specs.Words as Ow;
 
 use outage_rows::{Bound, Range, Row, Span};
 use points::Point;
-use solids::{Answer, Verdict};
+use solids::{Refusal, Verdict};
 
-// What a check looks for in each bound: 3, 4 or 12.
-#[derive(Clone, Copy)]
-pub enum Fault {
-    Missing,
-    TooFar,
-    Present,
+// 3: "a blank without its flag".
+#[tactic(auto, unfolding(outage_rows::specs::Bounds::missing))]
+fn missing(b: Bound) -> bool
+    ensures { result ≡ Bn.missing b }
+{
+    faults::blank(b.value) && !b.flag
 }
 
-fn has(fault: Fault, b: Bound) -> bool
-    ensures { result ≡ Ow.has fault b }
+// 4, whether its flag is set or not.
+fn too_far(b: Bound) -> bool
+    ensures { result ≡ Bn.too_far b }
 {
-    match fault {
-        Fault::Missing => faults::blank(b.value) & !b.flag,
-        Fault::TooFar => faults::beyond(b.value),
-        Fault::Present => b.flag & !faults::blank(b.value),
-    }
+    faults::beyond(b.value)
 }
 
-fn on_axis(fault: Fault, a: Range) -> bool
-    ensures { result ≡ (Ow.has fault a.low || Ow.has fault a.high) }
+// 12: "flag set, value present".
+#[tactic(auto, unfolding(outage_rows::specs::Bounds::present))]
+fn present(b: Bound) -> bool
+    ensures { result ≡ Bn.present b }
 {
-    has(fault, a.low) | has(fault, a.high)
+    b.flag && !faults::blank(b.value)
 }
 
-fn some(fault: Fault, r: Row) -> bool
-    ensures { result ≡ any (Ow.has fault) (Bn.bounds_of r) }
+fn on_axis<F: Fn(Bound) -> bool>(test: &F, a: Range) -> bool
+    requires { F.IsAlwaysCallable test.now }
+    ensures { (p : Bound → Bool) → Ow.Computes (F.post test.now) p → result ≡ (p a.low || p a.high) }
 {
-    on_axis(fault, r.x) | on_axis(fault, r.y) | on_axis(fault, r.z)
+    test(a.low) || test(a.high)
+}
+
+// Does some bound of the row meet the test?
+fn some<F: Fn(Bound) -> bool>(test: F, r: Row) -> bool
+    requires { F.IsAlwaysCallable test }
+    ensures { (p : Bound → Bool) → Ow.Computes (F.post test) p → result ≡ any p (Bn.bounds_of r) }
+{
+    on_axis(&test, r.x) || on_axis(&test, r.y) || on_axis(&test, r.z)
 }
 
 // "becomes the limit, negative for a low"
@@ -54,6 +63,7 @@ fn high(b: Bound) -> f64
     if b.flag { 1048576.0 } else { b.value }
 }
 
+#[tactic(auto, unfolding(outage_rows::specs::Bounds::bounds))]
 pub fn bounds(r: Row) -> Span
     ensures { result ≡ Bn.bounds r }
 {
@@ -71,27 +81,29 @@ pub fn bounds(r: Row) -> Span
     }
 }
 
+// A comparison with a NaN is false, so `>=` would say less than the negation.
+#[tactic(auto, unfolding(outage_rows::specs::Bounds::not_below, list_words::specs::Lists::any))]
 fn not_below(b: Span) -> bool
     ensures { result ≡ Bn.not_below b }
 {
-    !(b.low.x < b.high.x) | !(b.low.y < b.high.y) | !(b.low.z < b.high.z)
+    !(b.low.x < b.high.x) || !(b.low.y < b.high.y) || !(b.low.z < b.high.z)
 }
 
 // The checks 3, 4, 12 and 13, on nobody.
 pub fn check(r: Row) -> Verdict
     ensures { result ≡ Ow.check_bounds r }
 {
-    if some(Fault::Missing, r) {
-        return Verdict::Refused(Answer::on_nobody(3));
+    if some(missing, r) {
+        return Err(Refusal::Blank.on_nobody());
     }
-    if some(Fault::TooFar, r) {
-        return Verdict::Refused(Answer::on_nobody(4));
+    if some(too_far, r) {
+        return Err(Refusal::OutOfRange.on_nobody());
     }
-    if some(Fault::Present, r) {
-        return Verdict::Refused(Answer::on_nobody(12));
+    if some(present, r) {
+        return Err(Refusal::FlaggedValue.on_nobody());
     }
     if not_below(bounds(r)) {
-        return Verdict::Refused(Answer::on_nobody(13));
+        return Err(Refusal::NotBelow.on_nobody());
     }
-    Verdict::Accepted
+    Ok(())
 }

@@ -10,7 +10,12 @@ ghost use Rattle.outage_boxes.specs.Words as Ow;
 
 use outage_rows::{Boxed, Row, Span};
 use points::Point;
-use solids::{Answer, Verdict};
+use solids::{Answer, Refusal};
+
+// A box has 8 vertices and 12 facets, three numbers each.
+const COORDINATES: usize = 24;
+
+const CORNERS: usize = 36;
 
 // A corner's coordinate by its x, y or z: 1 for high.
 fn end(digit: usize, low: f64, high: f64) -> f64
@@ -34,15 +39,13 @@ fn put_points(b: Span, points: &mut [f64])
     requires { 24 ≤ length points.old }
     ensures { points.new ≡ onto (Bx.box b).points points.old }
 {
-    let mut n = 0;
-    while n < 8 {
+    for n in 0..8 {
         list_stores::put_point(corner(b, n), points, 3 * n);
-        n += 1;
     }
 }
 
 // A face with the corners a, b, c, d, the lowest first: cut by the diagonal from a to d, the triangle with b first. Both are turned outward where a, b, d
-// is, for true, or a, d, b, for false.
+// is, for true, or a, d, b, for false. The corners have the rule's letters, which the places of an array would not say.
 fn put_face(a: u32, b: u32, c: u32, d: u32, turned: bool, corners: &mut [u32], at: usize)
     requires { at + 5 < 2 ^ 64 }
     ensures { corners.new ≡ sets corners.old at (Ow.cut a b c d turned) }
@@ -69,45 +72,37 @@ fn put_facets(b: Span, corners: &mut [u32])
     put_face(4, 5, 6, 7, true, corners, 30);
 }
 
-fn refused(answer: Answer) -> Boxed
-    ensures { result ≡ Ow.refused answer }
-{
-    Boxed {
-        answer,
-        vertices: 0,
-        facets: 0,
-        unit: 0,
-    }
-}
-
 // The checks 3, 4, 12, 13, then 8 on a decoded row; then, in the fronts of the lent lists, its box.
-fn make(r: Row, points: &mut [f64], corners: &mut [u32]) -> Boxed
-    ensures { Bo.outcome result points.new corners.new ≡ Ow.made r points.old corners.old }
+fn make(r: Row, points: &mut [f64], corners: &mut [u32]) -> Result<Boxed, Answer>
+    ensures { Bo.outcome (Ow.answered result) points.new corners.new ≡ Ow.made r points.old corners.old }
 {
-    let said = outage_bounds::check(r);
-    if let Verdict::Refused(answer) = said {
-        return refused(answer);
-    }
-    if (points.len() < 24) | (corners.len() < 36) {
-        return refused(Answer::TOO_SHORT);
+    outage_bounds::check(r)?;
+    if points.len() < COORDINATES || corners.len() < CORNERS {
+        return Err(Refusal::TooShort.on_nobody());
     }
     let b = outage_bounds::bounds(r);
     put_points(b, points);
     put_facets(b, corners);
-    Boxed {
+    Ok(Boxed {
         answer: Answer::SUCCESS,
         vertices: 8,
         facets: 12,
         unit: r.unit,
-    }
+    })
 }
 
 // The checks 9, 3, 4, 12, 13, then 8; the lent lists stay as they are before all have passed.
+fn checked(row: &[u8], points: &mut [f64], corners: &mut [u32]) -> Result<Boxed, Answer>
+    ensures { Bo.outcome (Ow.answered result) points.new corners.new ≡ Bo.boxed row.now points.old corners.old }
+{
+    if outage_bytes::no_row(row) {
+        return Err(Refusal::NoLayout.on_nobody());
+    }
+    make(outage_bytes::decode(row), points, corners)
+}
+
 pub fn boxed(row: &[u8], points: &mut [f64], corners: &mut [u32]) -> Boxed
     ensures { Bo.BoxRow row.now points.old corners.old (result, (points.new, corners.new)) }
 {
-    if outage_bytes::no_row(row) {
-        return refused(Answer::NO_LAYOUT);
-    }
-    make(outage_bytes::decode(row), points, corners)
+    checked(row, points, corners).unwrap_or_else(Boxed::from)
 }

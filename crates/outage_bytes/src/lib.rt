@@ -1,7 +1,7 @@
 // A row's bytes decoded: the one place in code that knows a row's layout.
 #![tactic(auto)]
 
-ghost use Rattle.std.specs.Prelude.{◌≡◌, ◌<◌, length};
+ghost use Rattle.std.specs.Prelude.{◌≡◌, ◌||◌, ◌<◌, length};
 ghost use Rattle.outage_rows.specs.Row as Ro;
 ghost use Rattle.outage_bytes.specs.Words as Ow;
 
@@ -18,22 +18,22 @@ fn flag(row: &[u8], i: usize) -> bool
     bits::bit(in_bytes::number_at(row, 52, 1), i)
 }
 
-// Another length, another mark, or a flag set that is no bound's?
+// A flag set that is no bound's?
+fn stray_flag(row: &[u8]) -> bool
+    requires { length row.now ≡ 53 }
+    ensures { result ≡ (Ow.flag row.now 6 || Ow.flag row.now 7) }
+{
+    flag(row, 6) || flag(row, 7)
+}
+
+// Another length, another mark, or such a flag?
 pub fn no_row(row: &[u8]) -> bool
     ensures { result ≡ Ro.no_row row.now }
 {
-    if row.len() != 53 {
-        return true;
-    }
-    if in_bytes::number_at(row, 0, 2) != RW {
-        return true;
-    }
-    if flag(row, 6) {
-        return true;
-    }
-    flag(row, 7)
+    row.len() != 53 || in_bytes::number_at(row, 0, 2) != RW || stray_flag(row)
 }
 
+#[tactic(auto, unfolding(outage_rows::specs::Row::bound))]
 fn bound(row: &[u8], i: usize) -> Bound
     requires { (length row.now ≡ 53) × (i < 6) }
     ensures { result ≡ Ro.bound row.now i }
@@ -55,6 +55,7 @@ fn range(row: &[u8], k: usize) -> Range
     }
 }
 
+#[tactic(auto, unfolding(outage_rows::specs::Row::row))]
 pub fn decode(row: &[u8]) -> Row
     requires { length row.now ≡ 53 }
     ensures { result ≡ Ro.row row.now }

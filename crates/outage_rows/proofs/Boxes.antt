@@ -9,9 +9,8 @@ use Rattle.points.specs.declared.Point.{Point}
 use Rattle.points.specs.declared.Axis.{Axis}
 use Rattle.points.specs.declared.Axis.TheVariants.{X, Y, Z}
 use Rattle.points.specs.Points.{coordinate}
-use Rattle.solids.specs.declared.Verdict.{Verdict}
-use Rattle.solids.specs.declared.Verdict.TheVariants.{Accepted, Refused}
-use Rattle.solids.specs.Refusals.{nobody, answer, answer_of, no_refusal, given, in_order}
+use Rattle.solids.specs.Refusals.{Verdict, accepted, nobody, answer, answer_of, no_refusal, given, in_order}
+use Rattle.std.specs.Prelude.{Ok, Err}
 use Rattle.solids.specs.Admission.{point_admission}
 use Rattle.solids.specs.Containment.{count_as_B}
 use Rattle.solids.proofs.Admitted.{point_passed}
@@ -35,7 +34,7 @@ module _ (bs : List ℕ) where
   abbrev checks : List Float → List ℕ → List Verdict
   checks ps cs = check_row bs ∷ given (answer_of 8) (too_short ps cs (box_of bs)) ∷ []
 
-  given_box : (ps : List Float) (cs : List ℕ) → (boxed bs ps cs).answer.number ≡ 0 → (check_row bs ≡ Accepted) × (solid_boxed (boxed bs ps cs) ≡ box_of bs)
+  given_box : (ps : List Float) (cs : List ℕ) → (boxed bs ps cs).answer.number ≡ 0 → (check_row bs ≡ accepted) × (solid_boxed (boxed bs ps cs) ≡ box_of bs)
   unfolding the_rule boxed answer
   given_box ps cs z =
       let a = in_order_numbered (checks ps cs) (row_numbered bs, (given_numbered 7 nobody 0 (too_short ps cs (box_of bs)), tt)) (told (in_order (checks ps cs)) z) in (
@@ -44,14 +43,14 @@ module _ (bs : List ℕ) where
       )
     where
       told : (v : Verdict) → (boxing v (row bs).unit (box_of bs) ps cs).answer.number ≡ 0 → (answer v).number ≡ 0
-      told Accepted e = refl
-      told (Refused a) e = e
+      told (Ok u) e = refl
+      told (Err a) e = e
 
 -- ---- an admitted point
-there : (v : Point) → point_admission v ≡ Accepted → (k : Axis) → is_nan (coordinate k v) ≡ false
+there : (v : Point) → point_admission v ≡ accepted → (k : Axis) → is_nan (coordinate k v) ≡ false
 there v e = let (x, (y, (z, end))) = (point_passed v e).present in λ k. elim k as (λ j. is_nan (coordinate j v) ≡ false) [ X ↦ x | Y ↦ y | Z ↦ z ]
 
-contains : (bs : List ℕ) → check_row bs ≡ Accepted → (v : Point) → point_admission v ≡ Accepted
+contains : (bs : List ℕ) → check_row bs ≡ accepted → (v : Point) → point_admission v ≡ accepted
     → count_as_B v (box_of bs) ≡ record { answer = no_refusal; count = cond (inside (bounds (row bs)) v) (pos 1) (pos 0) }
 unfolding count_as_B in_order
 contains bs e v p =

@@ -5,3 +5,4 @@ pub mod Open
 pub mod Contains
 pub mod Rows
 pub mod Boxes
+pub mod Either

@@ -6,7 +6,7 @@ use Prim.Native.Nat.{ℕ}
 use lib.Ieee.{is_nan}
 use Rattle.list_words.proofs.Sums.{all_at}
 use Rattle.list_words.proofs.Tests.{any_false}
-use Rattle.solids.specs.declared.Verdict.TheVariants.{Accepted}
+use Rattle.solids.specs.Refusals.{accepted}
 use Rattle.outage_rows.specs.declared.Bound.{Bound}
 use Rattle.outage_rows.specs.Row.{row}
 use Rattle.outage_rows.specs.Bounds.{bounds_of, missing, present}
@@ -24,7 +24,7 @@ flagged b = go (is_nan b.value) b.flag
     go false true no_3 no_12 = absurd (true≢false no_12)
     go false false no_3 no_12 = refl
 
-pub blank_if_open : (bs : List ℕ) → check_row bs ≡ Accepted → (b : Bound) → Memᴰ b (bounds_of (row bs)) → is_nan b.value ≡ b.flag
+pub blank_if_open : (bs : List ℕ) → check_row bs ≡ accepted → (b : Bound) → Memᴰ b (bounds_of (row bs)) → is_nan b.value ≡ b.flag
 blank_if_open bs e b m =
     let h = passed bs e in
     let all = bounds_of (row bs) in

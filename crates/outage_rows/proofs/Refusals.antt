@@ -6,8 +6,7 @@ use mathlib.Core.List.{List}
 use Prim.Native.Nat.{ℕ}
 use lib.Ieee.{Float}
 use Rattle.list_words.specs.Lists.{any, onto}
-use Rattle.solids.specs.declared.Verdict.TheVariants.{Accepted}
-use Rattle.solids.specs.Refusals.{nobody, answer, answer_of, no_refusal, in_order}
+use Rattle.solids.specs.Refusals.{accepted, nobody, answer, answer_of, no_refusal, in_order}
 use Rattle.solids.specs.Solids.{vertices, facets}
 use Rattle.solids.proofs.Checks.{all_accepted, not_given}
 use Rattle.housefile.specs.Reader.{too_short}
@@ -71,14 +70,14 @@ pub record Passed (bs : List ℕ) : Type 0 where
   pub no_12 : any present (bounds_of (row bs)) ≡ false
   pub no_13 : not_below (bounds (row bs)) ≡ false
 
-pub passed : (bs : List ℕ) → check_row bs ≡ Accepted → Passed bs
+pub passed : (bs : List ℕ) → check_row bs ≡ accepted → Passed bs
 unfolding check_row
 passed bs e =
     let (c9, (c3, (c4, (c12, (c13, end))))) = all_accepted _ e in
     record { no_9 = not_given _ _ c9; no_3 = not_given _ _ c3; no_4 = not_given _ _ c4; no_12 = not_given _ _ c12; no_13 = not_given _ _ c13 }
 
 -- ---- no check of a row refuses with the number 0
-pub row_numbered : (bs : List ℕ) → (answer (check_row bs)).number ≡ 0 → check_row bs ≡ Accepted
+pub row_numbered : (bs : List ℕ) → (answer (check_row bs)).number ≡ 0 → check_row bs ≡ accepted
 unfolding check_row
 row_numbered bs =
     let r = row bs in

@@ -15,8 +15,7 @@ use Rattle.numbers.specs.Numbers.{number, number_at, bit}
 use Rattle.points.specs.declared.Axis.{Axis}
 use Rattle.points.specs.declared.Axis.TheVariants.{X, Y, Z}
 use Rattle.points.specs.Points.{coordinate, coordinates}
-use Rattle.solids.specs.declared.Verdict.TheVariants.{Accepted}
-use Rattle.solids.specs.Refusals.{in_order}
+use Rattle.solids.specs.Refusals.{accepted, in_order}
 use Rattle.solids.specs.Solids.{vertices, vertex, half_edges, pairs}
 use Rattle.solids.specs.Admission.{limit, beyond, uneven, too_many, too_high, named_twice, differ, check_blanks, check_limit, check_facet, check_corners, check_closure, admission}
 use Rattle.solids.proofs.Admitted.{by_vertex}
@@ -75,7 +74,7 @@ whole bs e =
     let (em, no_6) = or-false _ (bit 6 (flags bs)) e6 in
     eqb-true (length bs) 53 (not_false _ (or-false _ (not (eqb (number_at 0 2 bs) (number mark_RW))) em).0)
 
-pub fine : (bs : List ℕ) → check_row bs ≡ Accepted → Fine (bounds (row bs))
+pub fine : (bs : List ℕ) → check_row bs ≡ accepted → Fine (bounds (row bs))
 unfolding bounds not_below
 fine bs e =
     let r = row bs in
@@ -110,15 +109,15 @@ module _ (b : Span) (h : Fine b) where
   unfolding the_rule
   none p near_not = sym (by_vertex (box b) p refl) ∙ false_any p (box b).points (all_mono Near (λ x. p x ≡ false) (box b).points near_not near_points)
 
-  no_3 : check_blanks (box b) ≡ Accepted
+  no_3 : check_blanks (box b) ≡ accepted
   unfolding check_blanks
   no_3 = given_none _ _ (vertices (box b)) (none is_nan near_number)
 
-  no_4 : check_limit (box b) ≡ Accepted
+  no_4 : check_limit (box b) ≡ accepted
   unfolding check_limit
   no_4 = given_none _ _ (vertices (box b)) (none beyond near_within)
 
   -- the lengths, the corners and the half-edges are computed
-  pub admitted : admission (box b) ≡ Accepted
+  pub admitted : admission (box b) ≡ accepted
   unfolding the_rule uneven too_many check_facet check_corners check_closure in_order too_high named_twice differ any half_edges pairs times
-  admitted = last_6 (box b) refl refl no_3 no_4 refl Accepted refl
+  admitted = last_6 (box b) refl refl no_3 no_4 refl accepted refl

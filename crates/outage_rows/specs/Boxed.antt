@@ -1,10 +1,8 @@
 -- Request 2026-02: the call, from a row's bytes and two lent lists to the box, with its refusals and the lists afterwards.
-use Rattle.std.specs.Prelude.{ℕ, ◌≡◌, List, [], ◌∷◌, Float}
+use Rattle.std.specs.Prelude.{ℕ, ◌≡◌, List, [], ◌∷◌, Float, Ok, Err}
 use Rattle.list_words.specs.Lists.{any, onto}
 use Rattle.solids.specs.declared.Answer.{Answer}
-use Rattle.solids.specs.declared.Verdict.{Verdict}
-use Rattle.solids.specs.declared.Verdict.TheVariants.{Accepted, Refused}
-use Rattle.solids.specs.Refusals.{answer_of, no_refusal, given, in_order}
+use Rattle.solids.specs.Refusals.{Verdict, answer_of, no_refusal, given, in_order}
 use Rattle.solids.specs.Solids.{Solid, vertices, facets}
 use Rattle.housefile.specs.Reader.{too_short}
 use Rattle.outage_rows.specs.declared.Boxed.{Boxed}
@@ -24,10 +22,14 @@ pub record Boxing : Type 0 where
 abbrev pub outcome : Boxed → List Float → List ℕ → Boxing
 outcome r ps cs = record { answer = r.answer; vertices = r.vertices; facets = r.facets; unit = r.unit; points = ps; corners = cs }
 
+-- what a call answers that refuses
+abbrev pub nothing_boxed : Answer → Boxed
+nothing_boxed a = record { answer = a; vertices = 0; facets = 0; unit = 0 }
+
 abbrev pub boxing : Verdict → ℕ → Solid → List Float → List ℕ → Boxing
-boxing Accepted unit s ps cs =
+boxing (Ok u) unit s ps cs =
     record { answer = no_refusal; vertices = vertices s; facets = facets s; unit = unit; points = onto s.points ps; corners = onto s.corners cs }
-boxing (Refused a) unit s ps cs = record { answer = a; vertices = 0; facets = 0; unit = 0; points = ps; corners = cs }
+boxing (Err a) unit s ps cs = record { answer = a; vertices = 0; facets = 0; unit = 0; points = ps; corners = cs }
 
 -- "Refusals: 9 .., 3, 4, then 12 .., 13 .., and last 8": those on the row alone. A row is neither a solid nor a point: they are on nobody.
 unfoldable pub check_row : List ℕ → Verdict

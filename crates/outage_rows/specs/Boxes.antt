@@ -5,8 +5,7 @@ use Rattle.std.specs.Float.Ieee.{lt, le, is_nan}
 use Rattle.list_words.specs.Lists.{every}
 use Rattle.points.specs.declared.Point.{Point}
 use Rattle.points.specs.Points.{coordinate}
-use Rattle.solids.specs.declared.Verdict.TheVariants.{Accepted}
-use Rattle.solids.specs.Refusals.{no_refusal}
+use Rattle.solids.specs.Refusals.{accepted, no_refusal}
 use Rattle.solids.specs.Solids.{Solid, solid}
 use Rattle.solids.specs.Admission.{admission, point_admission}
 use Rattle.solids.specs.Containment.{count_as_B}
@@ -27,13 +26,13 @@ solid_boxed r = solid (take (3 * r.vertices) r.points) (take (3 * r.facets) r.co
 
 pub record Boxes : Type 0 where
   -- no blank is taken for open, and nothing open has a value: in an accepted row a bound is blank exactly if its flag is set
-  pub blank_if_open : (bs : List ℕ) → check_row bs ≡ Accepted → (b : Bound) → Memᴰ b (bounds_of (row bs)) → is_nan b.value ≡ b.flag
+  pub blank_if_open : (bs : List ℕ) → check_row bs ≡ accepted → (b : Bound) → Memᴰ b (bounds_of (row bs)) → is_nan b.value ≡ b.flag
   -- a call that answers 0 was given an accepted row, and leaves its box
   pub box_given : (bs : List ℕ) (ps : List Float) (cs : List ℕ) → (boxed bs ps cs).answer.number ≡ 0
-      → (check_row bs ≡ Accepted) × (solid_boxed (boxed bs ps cs) ≡ box_of bs)
-  pub box_admitted : (bs : List ℕ) → check_row bs ≡ Accepted → admission (box_of bs) ≡ Accepted
+      → (check_row bs ≡ accepted) × (solid_boxed (boxed bs ps cs) ≡ box_of bs)
+  pub box_admitted : (bs : List ℕ) → check_row bs ≡ accepted → admission (box_of bs) ≡ accepted
   -- "as B it contains a point once exactly if low < c and c <= high on each axis, and otherwise not at all"
-  pub box_contains : (bs : List ℕ) → check_row bs ≡ Accepted → (v : Point) → point_admission v ≡ Accepted
+  pub box_contains : (bs : List ℕ) → check_row bs ≡ accepted → (v : Point) → point_admission v ≡ accepted
       → count_as_B v (box_of bs) ≡ record { answer = no_refusal; count = cond (inside (bounds (row bs)) v) (pos 1) (pos 0) }
   -- the twelve facets that the rule gives
   pub box_facets : (b : Span) → (box b).corners

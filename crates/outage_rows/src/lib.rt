@@ -2,6 +2,9 @@
 // row and makes its box is the crate `outage_boxes`.
 #![tactic(auto)]
 
+ghost use Rattle.std.specs.Prelude.{◌≡◌};
+ghost use Rattle.outage_rows.specs.Boxed as Bo;
+
 use points::Point;
 use solids::Answer;
 
@@ -19,6 +22,7 @@ pub struct Range {
     pub high: Bound,
 }
 
+// By axis, as a point's coordinates are: an array would need a number for each name.
 #[derive(Clone, Copy)]
 pub struct Row {
     pub unit: u16,
@@ -42,4 +46,18 @@ pub struct Boxed {
     pub vertices: usize,
     pub facets: usize,
     pub unit: u16,
+}
+
+// A refusal comes with zero counts, and names no unit.
+impl From<Answer> for Boxed {
+    ghost from_gives = { λ answer boxed. boxed ≡ Bo.nothing_boxed answer };
+
+    fn from(answer: Answer) -> Boxed {
+        Boxed {
+            answer,
+            vertices: 0,
+            facets: 0,
+            unit: 0,
+        }
+    }
 }

@@ -3,8 +3,14 @@ use Rattle.std.specs.Prelude.{cond, List, ℕ, ◌+◌, ◌*◌, zero, suc, ◌/
 use Rattle.list_words.specs.Lists.{above, below}
 use Rattle.results.specs.declared.End.{End}
 use Rattle.placed_ends.specs.declared.Counts.{Counts}
+use Rattle.placed_ends.specs.declared.Side.{Side}
+use Rattle.placed_ends.specs.declared.Side.TheVariants.{Start, Stop}
 
 -- ---- starts go to even places of a list, stops to odd ones, each side in its order, as far as there is room
+
+abbrev pub place_of : Side → ℕ
+place_of Start = 0
+place_of Stop = 1
 
 -- the list, and the next piece on one side
 abbrev pub put_once : ℕ → ℕ → List ℕ × ℕ → List ℕ × ℕ

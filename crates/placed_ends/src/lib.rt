@@ -15,14 +15,31 @@ pub struct Counts {
     pub stops: usize,
 }
 
+// Which of a piece's two numbers: where it starts or where it ends.
+#[derive(Clone, Copy)]
+enum Side {
+    Start,
+    Stop,
+}
+
+impl Side {
+    fn place(self) -> usize
+        ensures { result ≡ Pe.place_of self }
+    {
+        match self {
+            Side::Start => 0,
+            Side::Stop => 1,
+        }
+    }
+}
+
 // Puts `v` on one side of the k-th piece, where there is room.
-fn put_once(list: &mut [u32], side: usize, k: usize, v: u32) -> usize
-    requires { side < 2 }
-    ensures list { list.new ≡ (Pe.put_once side v (list.old, k)).0 }
-    ensures next { result ≡ (Pe.put_once side v (list.old, k)).1 }
+fn put_once(list: &mut [u32], side: Side, k: usize, v: u32) -> usize
+    ensures list { list.new ≡ (Pe.put_once (Pe.place_of side) v (list.old, k)).0 }
+    ensures next { result ≡ (Pe.put_once (Pe.place_of side) v (list.old, k)).1 }
 {
     if k < list.len() / 2 {
-        let at = 2 * k + side;
+        let at = 2 * k + side.place();
         list[at] = v;
         return k + 1;
     }
@@ -30,16 +47,14 @@ fn put_once(list: &mut [u32], side: usize, k: usize, v: u32) -> usize
 }
 
 // Puts `v` n times, from the k-th piece on.
-fn put_times(list: &mut [u32], side: usize, k: usize, n: u32, v: u32) -> usize
-    requires { side < 2 }
-    ensures list { list.new ≡ (Pe.put_times side v n (list.old, k)).0 }
-    ensures next { result ≡ (Pe.put_times side v n (list.old, k)).1 }
+#[tactic(auto, using(crate::proofs::Placing::times_step))]
+fn put_times(list: &mut [u32], side: Side, k: usize, n: u32, v: u32) -> usize
+    ensures list { list.new ≡ (Pe.put_times (Pe.place_of side) v n (list.old, k)).0 }
+    ensures next { result ≡ (Pe.put_times (Pe.place_of side) v n (list.old, k)).1 }
 {
     let mut at = k;
-    let mut i = 0;
-    while i < n {
+    for _ in 0..n {
         at = put_once(list, side, at, v);
-        i += 1;
     }
     at
 }
@@ -48,30 +63,22 @@ fn put_times(list: &mut [u32], side: usize, k: usize, n: u32, v: u32) -> usize
 pub fn starts_of(count: i32) -> u32
     ensures { result ≡ below count }
 {
-    if count < 0 {
-        let wide = count as i64;
-        let n = -wide;
-        return n as u32;
-    }
-    0
+    if count < 0 { count.unsigned_abs() } else { 0 }
 }
 
 // "a count n above 0 is n ends"
 pub fn stops_of(count: i32) -> u32
     ensures { result ≡ above count }
 {
-    if count < 0 {
-        return 0;
-    }
-    count as u32
+    if count > 0 { count.unsigned_abs() } else { 0 }
 }
 
 // The starts of an end go to one side of the pieces, its stops to the other.
 pub fn place_end(list: &mut [u32], c: Counts, e: End) -> Counts
     ensures { (list.new ≡ (Pe.placed (list.old, c) e).0) × (result ≡ (Pe.placed (list.old, c) e).1) }
 {
-    let starts = put_times(list, 0, c.starts, starts_of(e.count), e.vertex);
-    let stops = put_times(list, 1, c.stops, stops_of(e.count), e.vertex);
+    let starts = put_times(list, Side::Start, c.starts, starts_of(e.count), e.vertex);
+    let stops = put_times(list, Side::Stop, c.stops, stops_of(e.count), e.vertex);
     Counts { starts, stops }
 }
 
@@ -80,10 +87,5 @@ pub fn next_place(c: Counts, at: usize) -> usize
     requires { at + 2 * min c.starts c.stops ≤ 4611686018427387904 }
     ensures { result ≡ at + 2 * min c.starts c.stops }
 {
-    let s = c.starts;
-    let e = c.stops;
-    if s < e {
-        return at + 2 * s;
-    }
-    at + 2 * e
+    at + 2 * c.starts.min(c.stops)
 }

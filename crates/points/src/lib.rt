@@ -38,6 +38,7 @@ pub fn coordinate(k: Axis, v: Point) -> f64
 }
 
 // "B's coordinate at the pair of points is at least A's"
+#[tactic(auto, unfolding(crate::specs::Points::at_least))]
 pub fn at_least(k: Axis, w: PointPair) -> bool
     ensures { result ≡ P.at_least k w }
 {
@@ -45,6 +46,7 @@ pub fn at_least(k: Axis, w: PointPair) -> bool
 }
 
 // "D+ and D- as B's coordinate less A's"
+#[tactic(auto, unfolding(crate::specs::Points::gap))]
 pub fn gap(k: Axis, w: PointPair) -> f64
     ensures { result ≡ P.gap k w }
 {
@@ -52,6 +54,7 @@ pub fn gap(k: Axis, w: PointPair) -> f64
 }
 
 // "t = D+ / (D+ - D-)"
+#[tactic(auto, unfolding(crate::specs::Points::share))]
 pub fn share(plus: f64, minus: f64) -> f64
     ensures { result ≡ P.share plus minus }
 {
@@ -66,6 +69,7 @@ fn in_order(p: f64, v: f64, m: f64) -> bool
 }
 
 // Does v lie "between p and m, ends included"?
+#[tactic(auto, unfolding(crate::specs::Points::between))]
 pub fn between(p: f64, m: f64, v: f64) -> bool
     ensures { result ≡ P.between p m v }
 {
@@ -73,6 +77,7 @@ pub fn between(p: f64, m: f64, v: f64) -> bool
 }
 
 // "If the number lies between p and m, ends included, it stands; otherwise p is taken."
+#[tactic(auto, unfolding(crate::specs::Points::held))]
 pub fn held(p: f64, m: f64, v: f64) -> f64
     ensures { result ≡ P.held p m v }
 {
@@ -80,12 +85,14 @@ pub fn held(p: f64, m: f64, v: f64) -> f64
 }
 
 // "Each coordinate of A's point is p - t*(p - m)"
+#[tactic(auto, unfolding(crate::specs::Points::interpolated))]
 pub fn interpolated(t: f64, p: f64, m: f64) -> f64
     ensures { result ≡ P.interpolated t p m }
 {
     held(p, m, p - t * (p - m))
 }
 
+#[tactic(auto, unfolding(crate::specs::Points::point_at))]
 pub fn point_at(t: f64, p: Point, m: Point) -> Point
     ensures { result ≡ P.point_at t p m }
 {
@@ -97,6 +104,7 @@ pub fn point_at(t: f64, p: Point, m: Point) -> Point
 }
 
 // "with p and m from A's plus and minus points; B's likewise"
+#[tactic(auto, unfolding(crate::specs::Points::pair_at))]
 pub fn pair_at(t: f64, plus: PointPair, minus: PointPair) -> PointPair
     ensures { result ≡ P.pair_at t plus minus }
 {
@@ -106,6 +114,7 @@ pub fn pair_at(t: f64, plus: PointPair, minus: PointPair) -> PointPair
     }
 }
 
+#[tactic(auto, unfolding(crate::specs::Points::placed))]
 pub fn placed(k: Axis, plus: PointPair, minus: PointPair) -> PointPair
     ensures { result ≡ P.placed k plus minus }
 {

@@ -8,7 +8,7 @@ use lib.Ieee.{Float}
 use lib.ListN.{length, take, drop, replicate, length-append, length-replicate, drop_of_length-le}
 use lib.Seq.{take_at, drop_at}
 use Rattle.solids.specs.Solids.{Solid, solid, facets, edges}
-use Rattle.solids.specs.declared.Verdict.TheVariants.{Accepted}
+use Rattle.solids.specs.Refusals.{accepted}
 use Rattle.solids.specs.Admission.{admission}
 use Rattle.solids.proofs.Admitted.{Passed, passed}
 use Rattle.solids.proofs.Closure.{named}
@@ -40,7 +40,7 @@ made_ready points corners p listed =
     }
 
 -- ---- two solids
-module _ (a b : Solid) (ok_a : admission a ≡ Accepted) (ok_b : admission b ≡ Accepted) where
+module _ (a b : Solid) (ok_a : admission a ≡ accepted) (ok_b : admission b ≡ accepted) where
   pub admitted_sized : Sized (sizes a b)
   admitted_sized = sized a b (passed a ok_a) (passed b ok_b)
 

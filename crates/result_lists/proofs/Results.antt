@@ -11,9 +11,8 @@ use lib.IntN.{ℤ}
 use lib.ListN.{length}
 use Rattle.list_words.specs.Lists.{onto}
 use Rattle.list_words.proofs.Tests.{or-false}
-use Rattle.solids.specs.Refusals.{answer_of, no_refusal}
+use Rattle.solids.specs.Refusals.{answer_of, no_refusal, accepted}
 use Rattle.solids.specs.Solids.{Solid}
-use Rattle.solids.specs.declared.Verdict.TheVariants.{Accepted}
 use Rattle.solids.specs.Admission.{admission}
 use Rattle.solids.proofs.Admitted.{passed}
 use Rattle.results.specs.declared.Operation.{Operation}
@@ -32,7 +31,7 @@ use Rattle.result_sizes.specs.Words.{Lists}
 use Rattle.result_sizes.proofs.Vertices.{all_vertices}
 use Rattle.result_sizes.proofs.Measures.{as_filled}
 
-module _ (op : Operation) (a b : Solid) (ok_a : admission a ≡ Accepted) (ok_b : admission b ≡ Accepted) {z : Sizes} {total : ℕ} {hs : List ℕ} {inc : List ℤ} {first crossed : List ℕ} (l : Lists op a b z total hs inc first crossed) where
+module _ (op : Operation) (a b : Solid) (ok_a : admission a ≡ accepted) (ok_b : admission b ≡ accepted) {z : Sizes} {total : ℕ} {hs : List ℕ} {inc : List ℤ} {first crossed : List ℕ} (l : Lists op a b z total hs inc first crossed) where
   module _ {num : List ℕ} {base n : ℕ} (v : Numbered op a b num base n) where
     abbrev ts : List Triangle
     ts = T.triangles (K.dense z inc num (K.rows first crossed base)) hs z

@@ -7,15 +7,16 @@ ghost use mathlib.Core.List.{flat_map};
 ghost use Rattle.list_words.specs.Lists.{up_to, nonzero};
 ghost use Rattle.solids.specs.Solids as So;
 ghost use Rattle.solids.specs.Admission as Ad;
-ghost use Rattle.solids.specs.declared.Verdict.TheVariants.{Accepted};
+ghost use Rattle.solids.specs.Refusals.{accepted};
 ghost use Rattle.results.specs.declared.Operation as Op;
 ghost use Rattle.results.specs.Inclusion as Inc;
-ghost use Rattle.edges.specs.Words as Ed;
+ghost use Rattle.edges.specs.Readers.{solid_of};
 ghost use Rattle.layouts.specs.Words as La;
 ghost use Rattle.crossing_rows.specs.Words as Cr;
 ghost use Rattle.inclusions.specs.Words as In;
 ghost use Rattle.result_numbers.specs.Words as Rn;
 
+use edges::ReadySolid;
 use layouts::Sizes;
 use results::Operation;
 
@@ -28,24 +29,14 @@ pub fn sign(op: Operation) -> i32
 }
 
 // Inclusions into the front of a list.
-pub fn include(
-    op: Operation,
-    z: Sizes,
-    ap: &[f64],
-    ac: &[u32],
-    bp: &[f64],
-    bc: &[u32],
-    ends: &[u32],
-    inc: &mut [i16],
-)
-    requires ready { Ed.Ready ap.now ac.now (take 768 ends.now) × Ed.Ready bp.now bc.now (drop 768 ends.now) × (length ends.now ≡ 1536) }
-    requires ac_value { (Ad.admission (So.lent ap ac) ≡ Accepted) × (Ad.admission (So.lent bp bc) ≡ Accepted) }
-    requires z_value { (z ≡ La.sizes (So.lent ap ac) (So.lent bp bc)) × La.Sized z × (z.va + z.vb ≤ length inc.old) × ((i : ℕ) → nat_abs (get_or inc.old i (pos 0)) ≤ 257) }
-    ensures included { In.Included op (So.lent ap.entry ac.entry) (So.lent bp.entry bc.entry) inc.new }
+pub fn include(op: Operation, z: Sizes, a: ReadySolid, b: ReadySolid, inc: &mut [i16])
+    requires admitted { (Ad.admission (solid_of a) ≡ accepted) × (Ad.admission (solid_of b) ≡ accepted) }
+    requires z_value { (z ≡ La.sizes (solid_of a) (solid_of b)) × La.Sized z × (z.va + z.vb ≤ length inc.old) × ((i : ℕ) → nat_abs (get_or inc.old i (pos 0)) ≤ 257) }
+    ensures included { In.Included op (solid_of a.entry) (solid_of b.entry) inc.new }
     ensures same { length inc.new ≡ length inc.old }
 {
     let many = z.va + z.vb;
-    inclusions::include(op, ap, ac, bp, bc, ends, &mut inc[..many]);
+    inclusions::include(op, a, b, &mut inc[..many]);
 }
 
 // The number of the first crossing, and how many vertices there are.
@@ -73,11 +64,5 @@ pub fn too_short(points: usize, corners: usize, origins: usize, n: usize, m: usi
     requires { (n ≤ 196864) × (m ≤ 1574400) }
     ensures { result ≡ (ltb points (3 * n) || ltb corners (3 * m) || ltb origins m) }
 {
-    if points < 3 * n {
-        return true;
-    }
-    if corners < 3 * m {
-        return true;
-    }
-    origins < m
+    points < 3 * n || corners < 3 * m || origins < m
 }

@@ -6,7 +6,7 @@ use native.Mathlib.Omega.{arith}
 use lib.IntN.{ℤ}
 use lib.ListN.{length}
 use Rattle.solids.specs.Solids.{Solid, vertices}
-use Rattle.solids.specs.declared.Verdict.TheVariants.{Accepted}
+use Rattle.solids.specs.Refusals.{accepted}
 use Rattle.solids.specs.Admission.{admission}
 use Rattle.solids.proofs.Admitted.{passed}
 use Rattle.results.specs.declared.Operation.{Operation}
@@ -29,7 +29,7 @@ use Rattle.result_numbers.proofs.Numbered.{follows_A, follows_B}
 use Rattle.result_sizes.specs.Words.{Lists}
 use Rattle.result_sizes.proofs.Vertices.{own_A, own_B}
 
-module _ (op : Operation) (a b : Solid) (ok_a : admission a ≡ Accepted) (ok_b : admission b ≡ Accepted) {z : Sizes} {total : ℕ} {hs : List ℕ} {inc : List ℤ} {first crossed : List ℕ} (l : Lists op a b z total hs inc first crossed) where
+module _ (op : Operation) (a b : Solid) (ok_a : admission a ≡ accepted) (ok_b : admission b ≡ accepted) {z : Sizes} {total : ℕ} {hs : List ℕ} {inc : List ℤ} {first crossed : List ℕ} (l : Lists op a b z total hs inc first crossed) where
   -- how many there can be
   pub z_sized : Sized z
   z_sized = rw l.of_z_list (sized a b (passed a ok_a) (passed b ok_b))

@@ -1,9 +1,9 @@
 -- Words of contracts; no public statement needs them. The lists of two admitted solids: what is gathered of them, and what is measured by it.
-use Rattle.std.specs.Prelude.{◌≡◌, ℕ, ◌+◌, ◌*◌, ◌≤◌, Float, ℤ, length, take, drop}
+use Rattle.std.specs.Prelude.{Result, Ok, Err, ◌≡◌, ℕ, ◌+◌, ◌*◌, ◌≤◌, Float, ℤ, length, take, drop}
 use mathlib.Core.List.{List, flat_map}
 use Rattle.list_words.specs.Lists.{up_to}
 use Rattle.solids.specs.Solids.{Solid, solid}
-use Rattle.solids.specs.declared.Verdict.TheVariants.{Accepted}
+use Rattle.solids.specs.Refusals.{accepted}
 use Rattle.solids.specs.Admission.{admission}
 use Rattle.results.specs.declared.Operation.{Operation}
 use Rattle.results.specs.Inclusion.{cI}
@@ -15,8 +15,7 @@ use Rattle.kept_lists.specs.Words as K
 use Rattle.crossing_rows.specs.Words.{row, rows}
 use Rattle.inclusions.specs.Words.{Included}
 use Rattle.result_numbers.specs.Words.{Numbered}
-use Rattle.result_sizes.specs.declared.Gathered.{Gathered}
-use Rattle.result_sizes.specs.declared.Gathered.TheVariants.{All, Full}
+use Rattle.crossing_rows.specs.declared.Full.{Full}
 
 -- half-edges, inclusions and `total` crossings are those of two solids
 pub record Lists (op : Operation) (a b : Solid) (z : Sizes) (total : ℕ) (hs : List ℕ) (inc : List ℤ) (first crossed : List ℕ) : Type 0 where
@@ -31,18 +30,18 @@ abbrev pub Ends : List Float → List ℕ → List Float → List ℕ → List �
 Ends ap ac bp bc ends = Ed.Ready ap ac (take 768 ends) × Ed.Ready bp bc (drop 768 ends) × (length ends ≡ 1536)
 
 -- `Full`: there is not room for 196,608 crossings
-abbrev pub Told : Operation → List Float → List ℕ → List Float → List ℕ → List ℕ → List ℕ → List ℤ → List ℕ → List ℕ → Gathered → Type 0
-Told op ap ac bp bc ends hs inc first crossed (All z total) =
+abbrev pub Told : Operation → List Float → List ℕ → List Float → List ℕ → List ℕ → List ℕ → List ℤ → List ℕ → List ℕ → Result (Sizes × ℕ) Full → Type 0
+Told op ap ac bp bc ends hs inc first crossed (Ok (z, total)) =
     Lists op (solid ap ac) (solid bp bc) z total (take (9 * (z.fa + z.fb)) hs) inc first crossed × Ends ap ac bp bc ends × (length inc ≡ 256) × (length first ≡ 641)
-Told op ap ac bp bc ends hs inc first crossed Full = 196608 ≤ length crossed → ⊥
+Told op ap ac bp bc ends hs inc first crossed (Err full) = 196608 ≤ length crossed → ⊥
 
 -- there are two admitted solids whose lists they are
 pub record OfSome (z : Sizes) (total : ℕ) (hs : List ℕ) (inc : List ℤ) (first crossed : List ℕ) : Type 0 where
   pub op : Operation
   pub a : Solid
   pub b : Solid
-  pub ok_a : admission a ≡ Accepted
-  pub ok_b : admission b ≡ Accepted
+  pub ok_a : admission a ≡ accepted
+  pub ok_b : admission b ≡ accepted
   pub lists : Lists op a b z total hs inc first crossed
 
 -- n vertices and m triangles, and what the triangles are then written from; it holds for whatever solids and operation have these lists

@@ -1,5 +1,5 @@
 -- Document 01, "The result": the operations and their three numbers, what can become a vertex of the result, and its inclusion.
-use Rattle.std.specs.Prelude.{ℕ, zero, suc, ℤ, pos, negsuc, ◌+ℤ◌, ◌*ℤ◌}
+use Rattle.std.specs.Prelude.{ℕ, zero, suc, ℤ, pos, negsuc, ◌+ℤ◌, ◌*ℤ◌, Option, Some, None}
 use Rattle.points.specs.declared.Point.{Point}
 use Rattle.crossings.specs.declared.Crossing.{Crossing}
 use Rattle.crossings.specs.Crossings.{count, points, ef, fe}
@@ -8,15 +8,13 @@ use Rattle.solids.specs.Containment.{in_A, in_B}
 use Rattle.results.specs.declared.Operation.{Operation}
 use Rattle.results.specs.declared.Operation.TheVariants.{Union, Intersection, Difference}
 use Rattle.results.specs.declared.Numbers.{Numbers}
-use Rattle.results.specs.declared.Chosen.{Chosen}
-use Rattle.results.specs.declared.Chosen.TheVariants.{Known, Unknown}
 
 -- "operation code (0 union, 1 intersection, 2 difference)"
-abbrev pub chosen : ℕ → Chosen
-chosen zero = Known Union
-chosen (suc zero) = Known Intersection
-chosen (suc (suc zero)) = Known Difference
-chosen (suc (suc (suc n))) = Unknown
+abbrev pub chosen : ℕ → Option Operation
+chosen zero = Some Union
+chosen (suc zero) = Some Intersection
+chosen (suc (suc zero)) = Some Difference
+chosen (suc (suc (suc n))) = None
 
 -- "cA, cB, cI: union 1, 1, -1; intersection 0, 0, 1; difference 1, 0, -1"
 abbrev pub numbers : Operation → Numbers

@@ -1,16 +1,12 @@
 -- Document 01: the call that makes a union, an intersection or a difference, with its refusals and the lent lists afterwards.
-use Rattle.std.specs.Prelude.{ℕ, ◌/◌, ◌≡◌, Bool, ◌||◌, List, [], ◌∷◌, length, ltb, Float}
+use Rattle.std.specs.Prelude.{ℕ, ◌/◌, ◌≡◌, Bool, ◌||◌, List, [], ◌∷◌, length, ltb, Float, Ok, Err, Option, Some, None}
 use Rattle.list_words.specs.Lists.{onto}
 use Rattle.solids.specs.declared.Answer.{Answer}
-use Rattle.solids.specs.declared.Verdict.{Verdict}
-use Rattle.solids.specs.declared.Verdict.TheVariants.{Accepted, Refused}
-use Rattle.solids.specs.Refusals.{answer_of, no_refusal, given, in_order, of_A, of_B}
+use Rattle.solids.specs.Refusals.{Verdict, answer_of, no_refusal, given, in_order, of_A, of_B}
 use Rattle.solids.specs.Solids.{Solid}
 use Rattle.solids.specs.Admission.{admission}
 use Rattle.results.specs.declared.Made.{Made}
 use Rattle.results.specs.declared.Operation.{Operation}
-use Rattle.results.specs.declared.Chosen.{Chosen}
-use Rattle.results.specs.declared.Chosen.TheVariants.{Known, Unknown}
 use Rattle.results.specs.Inclusion.{chosen}
 use Rattle.results.specs.Triangles.{Result, result}
 
@@ -54,20 +50,24 @@ success r l =
     }
 
 abbrev pub outcome : Verdict → Result → Lent → Outcome
-outcome Accepted r l = success r l
-outcome (Refused n) r l = refusal n l
+outcome (Ok u) r l = success r l
+outcome (Err n) r l = refusal n l
 
 -- "then A by 1 to 6, then B by 1 to 6, then 8"
 unfoldable pub operate : Operation → Solid → Solid → Lent → Outcome
 operate op a b l = let r = result op a b in outcome (in_order (of_A (admission a) ∷ of_B (admission b) ∷ given (answer_of 8) (too_short l r) ∷ [])) r l
 
 -- "An operation checks 7": an unknown operation code
-abbrev pub by_choice : Chosen → Solid → Solid → Lent → Outcome
-by_choice (Known op) a b l = operate op a b l
-by_choice Unknown a b l = refusal (answer_of 7) l
+abbrev pub by_choice : Option Operation → Solid → Solid → Lent → Outcome
+by_choice (Some op) a b l = operate op a b l
+by_choice None a b l = refusal (answer_of 7) l
 
 unfoldable pub operation : ℕ → Solid → Solid → Lent → Outcome
 operation code a b l = by_choice (chosen code) a b l
+
+-- what a call answers that refuses
+abbrev pub nothing_made : Answer → Made
+nothing_made a = record { answer = a; vertices = 0; triangles = 0 }
 
 -- what the call promises of its answer and of the lent lists as they then are
 abbrev pub Operate : ℕ → Solid → Solid → Lent → Made × Lent → Type 0

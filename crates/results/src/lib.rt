@@ -1,8 +1,9 @@
 // The operation's type with its three fixed numbers, the record that a composite edge is joined from, and what an operation answers.
 #![tactic(auto)]
 
-ghost use Rattle.std.specs.Prelude.{◌≡◌};
+ghost use Rattle.std.specs.Prelude.{◌≡◌, Some};
 ghost use Rattle.results.specs.Inclusion as I;
+ghost use Rattle.results.specs.Operation as Op;
 
 use solids::Answer;
 
@@ -11,13 +12,6 @@ pub enum Operation {
     Union,
     Intersection,
     Difference,
-}
-
-// What an operation code stands for.
-#[derive(Clone, Copy)]
-pub enum Chosen {
-    Known(Operation),
-    Unknown,
 }
 
 // A vertex of the result with its signed end count on one composite edge: above 0 so many ends, below 0 so many starts.
@@ -34,6 +28,19 @@ pub struct Made {
     pub answer: Answer,
     pub vertices: usize,
     pub triangles: usize,
+}
+
+// "A refusal gives zero counts"
+impl From<Answer> for Made {
+    ghost from_gives = { λ answer made. made ≡ Op.nothing_made answer };
+
+    fn from(answer: Answer) -> Made {
+        Made {
+            answer,
+            vertices: 0,
+            triangles: 0,
+        }
+    }
 }
 
 // The three fixed numbers of an operation.
@@ -74,14 +81,27 @@ impl Operation {
         }
     }
 
-    pub fn of_code(code: u32) -> Chosen
+    // The code that stands for it.
+    pub fn code(self) -> u32
+        ensures { I.chosen result ≡ Some self }
+    {
+        match self {
+            Operation::Union => 0,
+            Operation::Intersection => 1,
+            Operation::Difference => 2,
+        }
+    }
+
+    // What an operation code stands for.
+    // A function of the operation's type, one of the forms by place (docs/DECISIONS.md), and so no TryFrom.
+    pub fn of_code(code: u32) -> Option<Operation>
         ensures { result ≡ I.chosen code }
     {
         match code {
-            0 => Chosen::Known(Operation::Union),
-            1 => Chosen::Known(Operation::Intersection),
-            2 => Chosen::Known(Operation::Difference),
-            _ => Chosen::Unknown,
+            0 => Some(Operation::Union),
+            1 => Some(Operation::Intersection),
+            2 => Some(Operation::Difference),
+            _ => None,
         }
     }
 }

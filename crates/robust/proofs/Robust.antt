@@ -8,7 +8,7 @@ use lib.Ieee.{Float, is_nan}
 use mathlib.Core.Bool.{false}
 use Rattle.list_words.proofs.Sums.{All, all_at, all_mono}
 use Rattle.list_words.proofs.Threes.{third_threes, rest_threes}
-use Rattle.solids.specs.declared.Verdict.TheVariants.{Accepted}
+use Rattle.solids.specs.Refusals.{accepted}
 use Rattle.solids.specs.Solids.{Solid, vertices, facets, corner, half_edges, number_of}
 use Rattle.solids.specs.Admission.{beyond, admission}
 use Rattle.solids.proofs.Admitted.{Proper, Passed, passed, admitted}
@@ -16,7 +16,7 @@ use Rattle.solids.proofs.Shut as Of
 use Rattle.solids.proofs.Laid.{laid_whole, laid_half_edges, laid_each}
 use Rattle.solids.proofs.Limit.{Near, near, near_number, near_within}
 use Rattle.results.specs.declared.Operation.{Operation}
-use Rattle.results.specs.declared.Chosen.TheVariants.{Known}
+use Rattle.std.specs.Prelude.{Some}
 use Rattle.results.specs.Inclusion.{Key, chosen, inclusion, place}
 use Rattle.results.specs.Vertices.{keys, kept, number}
 use Rattle.results.specs.Triangles.{Triangle, triangles, listed, result}
@@ -75,7 +75,7 @@ module _ (op : Operation) (a b : Solid) (passed_a : Passed a) (passed_b : Passed
   within : All Near r.points
   within = result_near op a b (all_near a passed_a) (all_near b passed_b)
 
-  again : vertices r ≤ 128 → facets r ≤ 256 → admission r ≡ Accepted
+  again : vertices r ≤ 128 → facets r ≤ 256 → admission r ≡ accepted
   again v f =
       admitted r
       (record {
@@ -89,7 +89,7 @@ module _ (op : Operation) (a b : Solid) (passed_a : Passed a) (passed_b : Passed
         closed = closed;
       })
 
-robust_result : (code : ℕ) (op : Operation) → chosen code ≡ Known op → (a b : Solid) → admission a ≡ Accepted → admission b ≡ Accepted
+robust_result : (code : ℕ) (op : Operation) → chosen code ≡ Some op → (a b : Solid) → admission a ≡ accepted → admission b ≡ accepted
     → RobustResult code op a b
 robust_result code op known a b ok_a ok_b =
     let pa = passed a ok_a in

@@ -1,14 +1,13 @@
 -- Demand 3: of every crossing, and of the result that `operation` defines, for any two admitted solids and any operation, with room.
-use Rattle.std.specs.Prelude.{◌≡◌, ◌≢◌, false, ℕ, ◌<◌, ◌≤◌, ℤ, pos, ◌+ℤ◌, Float}
+use Rattle.std.specs.Prelude.{◌≡◌, ◌≢◌, false, ℕ, ◌<◌, ◌≤◌, ℤ, pos, ◌+ℤ◌, Float, Some}
 use mathlib.Core.List.{List, [], ◌∷◌, Memᴰ}
 use Rattle.std.specs.Float.Ieee.{is_nan}
 use Rattle.list_words.specs.Lists.{turned}
-use Rattle.solids.specs.declared.Verdict.TheVariants.{Accepted}
+use Rattle.solids.specs.Refusals.{accepted}
 use Rattle.solids.specs.Solids.{Solid, Half, vertices, facets, corner, half_edges, number_of, edges}
 use Rattle.solids.specs.Admission.{beyond, admission}
 use Rattle.results.specs.declared.Operation.{Operation}
 use Rattle.results.specs.declared.Operation.TheVariants.{Intersection, Difference}
-use Rattle.results.specs.declared.Chosen.TheVariants.{Known}
 use Rattle.results.specs.Inclusion.{Key, vA, eAfB, fAeB, vB, chosen, inclusion}
 use Rattle.results.specs.Pieces.{SignedEnd, ends_of_eA}
 use Rattle.results.specs.Triangles.{Result, result}
@@ -56,7 +55,7 @@ pub record RobustResult (code : ℕ) (op : Operation) (a b : Solid) : Type 0 whe
   pub within : (x : Float) → Memᴰ x (result op a b).points → beyond x ≡ false
   -- "so the result is admitted wherever its sizes are"
   pub admitted :
-      vertices (solid_of (result op a b)) ≤ 128 → facets (solid_of (result op a b)) ≤ 256 → admission (solid_of (result op a b)) ≡ Accepted
+      vertices (solid_of (result op a b)) ≤ 128 → facets (solid_of (result op a b)) ≤ 256 → admission (solid_of (result op a b)) ≡ accepted
   -- "For each edge of A, the signed ends kept by difference and by intersection add up, vertex by vertex and crossing by crossing"
   pub ends :
       (e : Half) → Memᴰ e (edges a)
@@ -67,4 +66,4 @@ pub record Robust : Type 0 where
   pub lower_points : LowerPoints
   -- "For any two admitted solids and any operation"
   pub of_result :
-      (code : ℕ) (op : Operation) → chosen code ≡ Known op → (a b : Solid) → admission a ≡ Accepted → admission b ≡ Accepted → RobustResult code op a b
+      (code : ℕ) (op : Operation) → chosen code ≡ Some op → (a b : Solid) → admission a ≡ accepted → admission b ≡ accepted → RobustResult code op a b

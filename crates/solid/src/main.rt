@@ -6,6 +6,7 @@ ghost use Rattle.std.specs.Prelude.{◌≤◌, length};
 use std::io::{Read, Stdin, Write};
 
 // Reads until the list is full, the input ends or a read fails. Answers how many bytes now stand at its start.
+// By hand: `read_exact` does not say how many bytes a shorter input had, and `read_to_end` takes heap.
 fn read_full(mut input: Stdin, list: &mut [u8]) -> usize
     ensures { result ≤ length list.new }
 {

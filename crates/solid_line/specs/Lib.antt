@@ -1,3 +1,4 @@
 pub mod Line
 pub mod Answers
 pub mod Enough
+pub mod Words

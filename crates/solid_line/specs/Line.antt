@@ -1,18 +1,16 @@
 -- Document 01, "Program `solid`": what it prints, as a function of the bytes on its standard input.
-use Rattle.std.specs.Prelude.{ℕ, suc, ◌+◌, ◌*◌, true, false, cond, List, [], ◌∷◌, ◌++◌, length, drop, replicate, ltb, eqb}
+use Rattle.std.specs.Prelude.{ℕ, suc, ◌+◌, ◌*◌, true, false, cond, List, [], ◌∷◌, ◌++◌, length, drop, replicate, ltb, eqb, Option, Some, None}
 use Rattle.numbers.specs.Digits.{digits}
 use Rattle.points.specs.Points.{zero_number}
 use Rattle.solids.specs.Refusals.{answer_of}
 use Rattle.results.specs.declared.Operation.{Operation}
 use Rattle.results.specs.declared.Operation.TheVariants.{Union, Intersection, Difference}
-use Rattle.results.specs.declared.Chosen.{Chosen}
-use Rattle.results.specs.declared.Chosen.TheVariants.{Known, Unknown}
 use Rattle.results.specs.Operation.{Lent, Outcome, refusal, operate}
 use Rattle.housefile.specs.Reader.{Layout, fault, laid, layout}
 
 -- "one letter (U, I or D)"
-abbrev pub letter : ℕ → Chosen
-letter c = cond (eqb c 0x55) (Known Union) (cond (eqb c 0x49) (Known Intersection) (cond (eqb c 0x44) (Known Difference) Unknown))
+abbrev pub letter : ℕ → Option Operation
+letter c = cond (eqb c 0x55) (Some Union) (cond (eqb c 0x49) (Some Intersection) (cond (eqb c 0x44) (Some Difference) None))
 
 -- "It has room for 512 vertices and 1,024 triangles."
 abbrev pub room : Lent
@@ -34,9 +32,9 @@ of_files op (laid i xs cs) (laid j ys ds) n =
     ]
 
 -- "an unknown letter gives 7 before the files are looked at; then input over 32,768 bytes"
-abbrev pub by_letter : Chosen → List ℕ → Outcome
-by_letter Unknown bs = refusal (answer_of 7) room
-by_letter (Known op) bs =
+abbrev pub by_letter : Option Operation → List ℕ → Outcome
+by_letter None bs = refusal (answer_of 7) room
+by_letter (Some op) bs =
     elim (ltb 32768 (suc (length bs))) [
       | true ↦ refusal (answer_of 9) room
       | false ↦ let first = layout bs in of_files op first (layout (behind first bs)) (length bs)

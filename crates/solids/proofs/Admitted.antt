@@ -15,11 +15,9 @@ use Rattle.list_words.proofs.UpTo.{all_up_to}
 use Rattle.list_words.proofs.Closed.{closed_of_all}
 use Rattle.points.specs.declared.Point.{Point}
 use Rattle.points.specs.Points.{coordinates, zero_number}
-use Rattle.solids.specs.declared.Verdict.TheVariants.{Accepted}
-use Rattle.solids.specs.Refusals.{in_order, given}
+use Rattle.solids.specs.Refusals.{accepted, in_order, given}
 use Rattle.solids.specs.Solids.{Solid, Half, vertices, facets, vertex, corner, half_edges_of, facet_half_edges, half_edges, number_of, pairs}
-use Rattle.solids.specs.Admission.{uneven, too_many, limit, beyond, too_high, high, named_twice, twice, differ}
-use Rattle.solids.specs.Admission.{check_lengths, check_sizes, check_blanks, check_limit, check_facet, check_corners, check_closure, admission, point_admission}
+use Rattle.solids.specs.Admission.{uneven, too_many, limit, beyond, too_high, high, named_twice, twice, differ, check_lengths, check_sizes, check_blanks, check_limit, check_facet, check_corners, check_closure, admission, point_admission}
 use Rattle.solids.proofs.Checks.{refused_accepted, all_accepted, not_given, none_given, given_none, each_accepts, accepts_each}
 use Rattle.solids.proofs.Orders.{last_6, point_else_accepted}
 use Rattle.solids.proofs.Pairs.{mem_pairs, all_pairs}
@@ -105,7 +103,7 @@ module _ (s : Solid) where
   by_vertex p whole = any_threes p s.points zero_number whole
 
   -- a facet that is accepted has neither fault
-  pub neither : (f : ℕ) → check_facet s f ≡ Accepted → (high s f ≡ false) × (twice s f ≡ false)
+  pub neither : (f : ℕ) → check_facet s f ≡ accepted → (high s f ≡ false) × (twice s f ≡ false)
   unfolding check_facet in_order
   neither f e = by (high s f) refl (twice s f) refl
     where
@@ -115,7 +113,7 @@ module _ (s : Solid) where
       by false i true j = absurd (refused_accepted _ (simp (i, j) at e))
       by false i false j = (i, j)
 
-  fine : (f : ℕ) → check_facet s f ≡ Accepted → Proper (vertices s) (corner s f 0) (corner s f 1) (corner s f 2)
+  fine : (f : ℕ) → check_facet s f ≡ accepted → Proper (vertices s) (corner s f 0) (corner s f 1) (corner s f 2)
   fine f e =
       let p = corner s f 0 in
       let q = corner s f 1 in
@@ -125,7 +123,7 @@ module _ (s : Solid) where
       let (pq, qr, rp) = once p q r no_11 in
       record { below_p = bp; below_q = bq; below_r = br; apart_pq = pq; apart_qr = qr; apart_rp = rp }
 
-  fine_back : (f : ℕ) → Proper (vertices s) (corner s f 0) (corner s f 1) (corner s f 2) → check_facet s f ≡ Accepted
+  fine_back : (f : ℕ) → Proper (vertices s) (corner s f 0) (corner s f 1) (corner s f 2) → check_facet s f ≡ accepted
   unfolding check_facet in_order too_high named_twice
   fine_back f h =
       let p = corner s f 0 in
@@ -134,7 +132,7 @@ module _ (s : Solid) where
       let n = vertices s in
       rw (lt-leb n p h.below_p, lt-leb n q h.below_q, lt-leb n r h.below_r, ne_eqb p q h.apart_pq, ne_eqb q r h.apart_qr, ne_eqb r p h.apart_rp)
 
-  pub all_fine : check_corners s ≡ Accepted → All_proper s
+  pub all_fine : check_corners s ≡ accepted → All_proper s
   unfolding check_corners
   all_fine e f i = fine f (each_accepts (check_facet s) (facets s) e f i)
 
@@ -163,7 +161,7 @@ module _ (s : Solid) where
       (all_pairs (λ h. differ (half_edges s) h ≡ false) (vertices s) (λ h a b. ap not (eq-eqb _ _ (c h))))
 
   -- ---- both ways
-  pub passed : admission s ≡ Accepted → Passed s
+  pub passed : admission s ≡ accepted → Passed s
   unfolding admission check_lengths check_sizes check_blanks check_limit check_closure
   passed e =
       let (c1, (c2, (c3, (c4, (c5, (c6, end)))))) = all_accepted _ e in
@@ -181,14 +179,14 @@ module _ (s : Solid) where
         closed = shut r5 (not_given _ _ c6);
       }
 
-  pub admitted : Passed s → admission s ≡ Accepted
+  pub admitted : Passed s → admission s ≡ accepted
   unfolding check_blanks check_limit check_corners check_closure
   admitted h =
       let whole = h.points_whole in
       last_6 s (even_back whole h.corners_whole) (few_back h.few_vertices h.few_facets)
       (given_none _ _ (vertices s) (sym (by_vertex is_nan whole) ∙ false_any is_nan s.points h.present))
       (given_none _ _ (vertices s) (sym (by_vertex beyond whole) ∙ false_any beyond s.points h.near))
-      (accepts_each (check_facet s) (facets s) (λ f i. fine_back f (h.proper f i))) Accepted (ap (given _) (shut_back h.closed))
+      (accepts_each (check_facet s) (facets s) (λ f i. fine_back f (h.proper f i))) accepted (ap (given _) (shut_back h.closed))
 
 -- ---- a point
 pub record PointPassed (v : Point) : Type 0 where
@@ -196,13 +194,13 @@ pub record PointPassed (v : Point) : Type 0 where
   pub near : All (λ x. beyond x ≡ false) (coordinates v)
 
 module _ (v : Point) where
-  pub point_passed : point_admission v ≡ Accepted → PointPassed v
+  pub point_passed : point_admission v ≡ accepted → PointPassed v
   unfolding point_admission
   point_passed e =
       let (c3, (c4, end)) = all_accepted _ e in
       record { present = any_false is_nan (coordinates v) (not_given _ _ c3); near = any_false beyond (coordinates v) (not_given _ _ c4) }
 
-  pub point_admitted : PointPassed v → point_admission v ≡ Accepted
+  pub point_admitted : PointPassed v → point_admission v ≡ accepted
   point_admitted h = point_else_accepted v (false_any is_nan (coordinates v) h.present) (false_any beyond (coordinates v) h.near)
 
 -- ---- the limit, "infinities included"

@@ -10,9 +10,8 @@ use Rattle.list_words.proofs.Sums.{All, all_at, all_mono}
 use Rattle.list_words.proofs.Tests.{any_true, any_false, true_any}
 use Rattle.list_words.proofs.Closed.{closed_of_all}
 use Rattle.list_words.proofs.Searches.{any_flat_map, any_up_to_found}
-use Rattle.solids.specs.declared.Verdict.{Verdict}
-use Rattle.solids.specs.declared.Verdict.TheVariants.{Accepted, Refused}
-use Rattle.solids.specs.Refusals.{answer, on_solid, given, at_each}
+use Rattle.solids.specs.Refusals.{Verdict, answer, on_solid, given, at_each}
+use Rattle.std.specs.Prelude.{Ok, Err}
 use Rattle.solids.specs.Solids.{Solid, vertices, facets, facet_half_edges, half_edges, pairs}
 use Rattle.solids.specs.Admission.{differ, unmatched, check_half_edges, check_closure}
 use Rattle.solids.specs.Words.{Low, Named}
@@ -60,9 +59,9 @@ module _ (s : Solid) where
   closure_each proper = by (at_each (facets s) (check_half_edges s)) refl
     where
       by : (v : Verdict) → at_each (facets s) (check_half_edges s) ≡ v → given (on_solid 6 (answer v).place) (any (differ (half_edges s)) (pairs (vertices s))) ≡ v
-      by Accepted e = ap (given _) (closure_facets proper ∙ none_given _ (unmatched s) (facets s) e)
-      by (Refused a) e =
+      by (Ok u) e = ap (given _) (closure_facets proper ∙ none_given _ (unmatched s) (facets s) e)
+      by (Err a) e =
           let r = each_refused (check_half_edges s) (facets s) a e in
           let (found, same) = was_given (on_solid 6 r.place) a (unmatched s r.place) r.there in
           ap (given _) (closure_facets proper ∙ any_up_to_found (unmatched s) (facets s) r.place r.below found)
-          ∙ ap (λ c. Refused (on_solid 6 c.place)) (sym same) ∙ ap Refused same
+          ∙ ap (λ c. Err (on_solid 6 c.place)) (sym same) ∙ ap Err same

@@ -10,12 +10,10 @@ use Rattle.list_words.proofs.Tests.{false_any}
 use Rattle.list_words.proofs.Searches.{any_up_to_found}
 use Rattle.list_words.proofs.UpTo.{all_up_to}
 use Rattle.solids.specs.declared.Answer.{Answer}
-use Rattle.solids.specs.declared.Verdict.{Verdict}
-use Rattle.solids.specs.declared.Verdict.TheVariants.{Accepted, Refused}
-use Rattle.solids.specs.Refusals.{answer, on_solid, given, in_order, at_each}
+use Rattle.solids.specs.Refusals.{Verdict, accepted, answer, on_solid, given, in_order, at_each}
+use Rattle.std.specs.Prelude.{Ok, Err}
 use Rattle.solids.specs.Solids.{Solid, vertices, facets, vertex, half_edges, pairs}
-use Rattle.solids.specs.Admission.{uneven, too_many, blank, beyond, out_of_range, high, twice, differ, unmatched}
-use Rattle.solids.specs.Admission.{check_blanks, check_limit, check_facet, check_corners, check_half_edges, check_closure, admission}
+use Rattle.solids.specs.Admission.{uneven, too_many, blank, beyond, out_of_range, high, twice, differ, unmatched, check_blanks, check_limit, check_facet, check_corners, check_half_edges, check_closure, admission}
 use Rattle.solids.specs.Places.{faulty, First, Placed, at_1, at_2, at_3, at_4, at_10, at_11, at_6, admission_01, five_for, Places}
 use Rattle.solids.proofs.Checks.{refused_accepted, was_given, not_given, none_given, each_refused, each_accepts}
 use Rattle.solids.proofs.Orders.{first_1, then_2, then_3, then_4, then_10_and_11, last_6}
@@ -24,7 +22,7 @@ use Rattle.solids.proofs.Closure.{closure_facets, closure_each}
 
 -- a check that is one test at each number below n, told with that number
 module _ (k : ℕ) (test : ℕ → Bool) (n : ℕ) where
-  told : (a : Answer) → at_each n (λ i. given (on_solid k i) (test i)) ≡ Refused a → (i : ℕ) × (a ≡ on_solid k i) × First n test i
+  told : (a : Answer) → at_each n (λ i. given (on_solid k i) (test i)) ≡ Err a → (i : ℕ) × (a ≡ on_solid k i) × First n test i
   told a e =
       let r = each_refused (λ i. given (on_solid k i) (test i)) n a e in
       let (found, same) = was_given (on_solid k r.place) a (test r.place) r.there in
@@ -48,24 +46,24 @@ module _ (s : Solid) where
   gap = any (differ (half_edges s)) (pairs (vertices s))
 
   pub data Said : Verdict → Type 0 where
-    by_1 : uneven s ≡ true → Said (Refused (on_solid 1 0))
-    by_2 : uneven s ≡ false → too_many s ≡ true → Said (Refused (on_solid 2 0))
-    by_3 : (i : ℕ) → uneven s ≡ false → too_many s ≡ false → blanks ≡ true → First (vertices s) (λ i. blank (vertex s i)) i → Said (Refused (on_solid 3 i))
+    by_1 : uneven s ≡ true → Said (Err (on_solid 1 0))
+    by_2 : uneven s ≡ false → too_many s ≡ true → Said (Err (on_solid 2 0))
+    by_3 : (i : ℕ) → uneven s ≡ false → too_many s ≡ false → blanks ≡ true → First (vertices s) (λ i. blank (vertex s i)) i → Said (Err (on_solid 3 i))
     by_4 : (i : ℕ) → uneven s ≡ false → too_many s ≡ false → blanks ≡ false → far ≡ true
-        → First (vertices s) (λ i. out_of_range (vertex s i)) i → Said (Refused (on_solid 4 i))
+        → First (vertices s) (λ i. out_of_range (vertex s i)) i → Said (Err (on_solid 4 i))
     by_10 : (f : ℕ) → uneven s ≡ false → too_many s ≡ false → blanks ≡ false → far ≡ false → First (facets s) (faulty s) f
-        → high s f ≡ true → Said (Refused (on_solid 10 f))
+        → high s f ≡ true → Said (Err (on_solid 10 f))
     by_11 : (f : ℕ) → uneven s ≡ false → too_many s ≡ false → blanks ≡ false → far ≡ false → First (facets s) (faulty s) f
-        → high s f ≡ false → twice s f ≡ true → Said (Refused (on_solid 11 f))
+        → high s f ≡ false → twice s f ≡ true → Said (Err (on_solid 11 f))
     by_6 : (f : ℕ) → uneven s ≡ false → too_many s ≡ false → blanks ≡ false → far ≡ false → faults ≡ false → gap ≡ true
-        → First (facets s) (unmatched s) f → Said (Refused (on_solid 6 f))
-    by_none : uneven s ≡ false → too_many s ≡ false → blanks ≡ false → far ≡ false → faults ≡ false → gap ≡ false → Said Accepted
+        → First (facets s) (unmatched s) f → Said (Err (on_solid 6 f))
+    by_none : uneven s ≡ false → too_many s ≡ false → blanks ≡ false → far ≡ false → faults ≡ false → gap ≡ false → Said accepted
 
-  facet_fine : (f : ℕ) → check_facet s f ≡ Accepted → faulty s f ≡ false
+  facet_fine : (f : ℕ) → check_facet s f ≡ accepted → faulty s f ≡ false
   unfolding faulty
   facet_fine f e = let (no_10, no_11) = neither s f e in rw (no_10, no_11)
 
-  facets_fine : check_corners s ≡ Accepted → faults ≡ false
+  facets_fine : check_corners s ≡ accepted → faults ≡ false
   unfolding check_corners
   facets_fine e =
       false_any (faulty s) (up_to (facets s))
@@ -75,27 +73,27 @@ module _ (s : Solid) where
     whole : length s.points % 3 ≡ 0
     whole = (even s no_1).0
 
-    module _ (c3 : check_blanks s ≡ Accepted) where
+    module _ (c3 : check_blanks s ≡ accepted) where
       no_3 : blanks ≡ false
       unfolding check_blanks
       no_3 = by_vertex s is_nan whole ∙ none_given _ _ (vertices s) c3
 
-      module _ (c4 : check_limit s ≡ Accepted) where
+      module _ (c4 : check_limit s ≡ accepted) where
         no_4 : far ≡ false
         unfolding check_limit
         no_4 = by_vertex s beyond whole ∙ none_given _ _ (vertices s) c4
 
-        said_6 : check_corners s ≡ Accepted → (v : Verdict) → check_closure s ≡ v → Said v
+        said_6 : check_corners s ≡ accepted → (v : Verdict) → check_closure s ≡ v → Said v
         unfolding check_closure check_half_edges
-        said_6 c5 Accepted e = by_none no_1 no_2 no_3 no_4 (facets_fine c5) (not_given _ _ e)
-        said_6 c5 (Refused a) e =
+        said_6 c5 (Ok u) e = by_none no_1 no_2 no_3 no_4 (facets_fine c5) (not_given _ _ e)
+        said_6 c5 (Err a) e =
             let proper = all_fine s c5 in
             let (f, same, first) = told 6 (unmatched s) (facets s) a (sym (closure_each s proper) ∙ e) in
-            subst (λ a. Said (Refused a)) (sym same)
+            subst (λ a. Said (Err a)) (sym same)
             (by_6 f no_1 no_2 no_3 no_4 (facets_fine c5) (closure_facets s proper ∙ somewhere (facets s) (unmatched s) f first) first)
 
         facet_said : (f : ℕ) → f < facets s → ((i : ℕ) → i < f → faulty s i ≡ false) → (h : Bool) → high s f ≡ h → (t : Bool) → twice s f ≡ t
-            → (a : Answer) → in_order (given (on_solid 10 f) h ∷ given (on_solid 11 f) t ∷ []) ≡ Refused a → Said (Refused a)
+            → (a : Answer) → in_order (given (on_solid 10 f) h ∷ given (on_solid 11 f) t ∷ []) ≡ Err a → Said (Err a)
         unfolding in_order faulty
         facet_said f below before true i t j a e =
             subst Said e (by_10 f no_1 no_2 no_3 no_4 record { below = below; there = rw i; none_before = before } i)
@@ -103,29 +101,29 @@ module _ (s : Solid) where
             subst Said e (by_11 f no_1 no_2 no_3 no_4 record { below = below; there = rw (i, j); none_before = before } i j)
         facet_said f below before false i false j a e = absurd (refused_accepted a (sym e))
 
-        said_10_and_11 : (a : Answer) → check_corners s ≡ Refused a → Said (Refused a)
+        said_10_and_11 : (a : Answer) → check_corners s ≡ Err a → Said (Err a)
         unfolding check_corners check_facet
         said_10_and_11 a e =
             let r = each_refused (check_facet s) (facets s) a e in
             facet_said r.place r.below (λ i h. facet_fine i (r.before i h)) (high s r.place) refl (twice s r.place) refl a r.there
 
         said_5 : (v : Verdict) → check_corners s ≡ v → Said (admission s)
-        said_5 Accepted e = subst Said (sym (last_6 s no_1 no_2 c3 c4 e (check_closure s) refl)) (said_6 e (check_closure s) refl)
-        said_5 (Refused a) e = subst Said (sym (then_10_and_11 s no_1 no_2 c3 c4 a e)) (said_10_and_11 a e)
+        said_5 (Ok u) e = subst Said (sym (last_6 s no_1 no_2 c3 c4 e (check_closure s) refl)) (said_6 e (check_closure s) refl)
+        said_5 (Err a) e = subst Said (sym (then_10_and_11 s no_1 no_2 c3 c4 a e)) (said_10_and_11 a e)
 
       said_4 : (v : Verdict) → check_limit s ≡ v → Said (admission s)
       unfolding check_limit
-      said_4 Accepted e = said_5 e (check_corners s) refl
-      said_4 (Refused a) e =
+      said_4 (Ok u) e = said_5 e (check_corners s) refl
+      said_4 (Err a) e =
           let (i, same, first) = told 4 (λ i. out_of_range (vertex s i)) (vertices s) a e in
-          subst Said (sym (then_4 s no_1 no_2 c3 a e ∙ ap Refused same)) (by_4 i no_1 no_2 no_3 (by_vertex s beyond whole ∙ somewhere (vertices s) _ i first) first)
+          subst Said (sym (then_4 s no_1 no_2 c3 a e ∙ ap Err same)) (by_4 i no_1 no_2 no_3 (by_vertex s beyond whole ∙ somewhere (vertices s) _ i first) first)
 
     said_3 : (v : Verdict) → check_blanks s ≡ v → Said (admission s)
     unfolding check_blanks
-    said_3 Accepted e = said_4 e (check_limit s) refl
-    said_3 (Refused a) e =
+    said_3 (Ok u) e = said_4 e (check_limit s) refl
+    said_3 (Err a) e =
         let (i, same, first) = told 3 (λ i. blank (vertex s i)) (vertices s) a e in
-        subst Said (sym (then_3 s no_1 no_2 a e ∙ ap Refused same)) (by_3 i no_1 no_2 (by_vertex s is_nan whole ∙ somewhere (vertices s) _ i first) first)
+        subst Said (sym (then_3 s no_1 no_2 a e ∙ ap Err same)) (by_3 i no_1 no_2 (by_vertex s is_nan whole ∙ somewhere (vertices s) _ i first) first)
 
   said_2 : uneven s ≡ false → (b : Bool) → too_many s ≡ b → Said (admission s)
   said_2 no_1 true e = subst Said (sym (then_2 s no_1 e)) (by_2 no_1 e)
@@ -139,7 +137,7 @@ module _ (s : Solid) where
   said = said_1 (uneven s) refl
 
   -- ---- so
-  placed : (v : Verdict) → Said v → (a : Answer) → v ≡ Refused a → Placed s a
+  placed : (v : Verdict) → Said v → (a : Answer) → v ≡ Err a → Placed s a
   unfolding answer
   placed v (by_1 _) a d = subst (Placed s) (ap answer d) at_1
   placed v (by_2 _ _) a d = subst (Placed s) (ap answer d) at_2

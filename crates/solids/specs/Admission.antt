@@ -7,8 +7,7 @@ use Rattle.list_words.specs.Lists.{any, turned}
 use Rattle.points.specs.declared.Point.{Point}
 use Rattle.points.specs.Points.{coordinates}
 use Rattle.solids.specs.declared.Answer.{Answer}
-use Rattle.solids.specs.declared.Verdict.{Verdict}
-use Rattle.solids.specs.Refusals.{answer, on_solid, on_point, given, in_order, at_each}
+use Rattle.solids.specs.Refusals.{Verdict, answer, on_solid, on_point, given, in_order, at_each}
 use Rattle.solids.specs.Solids.{Solid, Half, vertices, facets, vertex, corner, facet_half_edges, half_edges, number_of, pairs}
 
 -- 1: "a list's length is not a multiple of three"

@@ -1,13 +1,12 @@
 -- Document 01, "Crossing counts": how often a solid contains a point, and the two calls that count it.
-use Rattle.std.specs.Prelude.{◌≡◌, [], ◌∷◌, ℤ, pos, neg_ℤ}
+use Rattle.std.specs.Prelude.{◌≡◌, [], ◌∷◌, ℤ, pos, neg_ℤ, Ok, Err}
 use Rattle.list_words.specs.Lists.{up_to, sum_of}
 use Rattle.points.specs.declared.Point.{Point}
 use Rattle.points.specs.declared.Axis.TheVariants.{Z}
 use Rattle.crossings.specs.Crossings.{S, vf, fv}
+use Rattle.solids.specs.declared.Answer.{Answer}
 use Rattle.solids.specs.declared.Counted.{Counted}
-use Rattle.solids.specs.declared.Verdict.{Verdict}
-use Rattle.solids.specs.declared.Verdict.TheVariants.{Accepted, Refused}
-use Rattle.solids.specs.Refusals.{no_refusal, in_order}
+use Rattle.solids.specs.Refusals.{Verdict, no_refusal, in_order}
 use Rattle.solids.specs.Solids.{Solid, facets, facet}
 use Rattle.solids.specs.Admission.{admission, point_admission}
 
@@ -20,9 +19,12 @@ unfoldable pub in_A : Solid → Point → ℤ
 in_A a v = neg_ℤ (sum_of (λ f. S Z (fv (facet a f) v)) (up_to (facets a)))
 
 -- "Every refusal returns its number with all counts zero"
+abbrev pub nothing_counted : Answer → Counted
+nothing_counted a = record { answer = a; count = pos 0 }
+
 abbrev pub counted : Verdict → ℤ → Counted
-counted Accepted n = record { answer = no_refusal; count = n }
-counted (Refused a) n = record { answer = a; count = pos 0 }
+counted (Ok u) n = record { answer = no_refusal; count = n }
+counted (Err a) n = nothing_counted a
 
 -- "A point count checks the point by 3 and 4, then the solid by 1 to 6; there is one such call for the solid as A and one for the solid as B."
 unfoldable pub count_as_A : Point → Solid → Counted

@@ -1,12 +1,10 @@
 -- What 2026-01 promises of a refusal on the only solid: that its place is where the fault is first found, and that its number is document 01's, with
 -- 10 or 11 for 5.
-use Rattle.std.specs.Prelude.{ℕ, ◌<◌, ◌≡◌, Bool, true, false, ◌||◌, cond, [], ◌∷◌, eqb}
+use Rattle.std.specs.Prelude.{ℕ, ◌<◌, ◌≡◌, Bool, true, false, ◌||◌, cond, [], ◌∷◌, eqb, Err}
 use Rattle.std.specs.Float.Ieee.{is_nan}
 use Rattle.list_words.specs.Lists.{up_to, any}
 use Rattle.solids.specs.declared.Answer.{Answer}
-use Rattle.solids.specs.declared.Verdict.{Verdict}
-use Rattle.solids.specs.declared.Verdict.TheVariants.{Refused}
-use Rattle.solids.specs.Refusals.{answer, answer_of, on_solid, given, in_order}
+use Rattle.solids.specs.Refusals.{Verdict, answer, answer_of, on_solid, given, in_order}
 use Rattle.solids.specs.Solids.{Solid, vertices, facets, vertex, half_edges, pairs}
 use Rattle.solids.specs.Admission.{uneven, too_many, blank, beyond, out_of_range, high, twice, differ, unmatched, admission}
 
@@ -48,6 +46,6 @@ abbrev pub five_for : ℕ → ℕ
 five_for n = cond (eqb n 10 || eqb n 11) 5 n
 
 pub record Places : Type 0 where
-  pub place_holds : (s : Solid) (a : Answer) → admission s ≡ Refused a → Placed s a
+  pub place_holds : (s : Solid) (a : Answer) → admission s ≡ Err a → Placed s a
   -- "10 and 11 stand where an order of checks names or spans 5"; the other numbers are given where they were
   pub numbers_stay : (s : Solid) → five_for (answer (admission s)).number ≡ (answer (admission_01 s)).number

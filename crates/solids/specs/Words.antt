@@ -10,10 +10,35 @@ use Rattle.crossings.specs.declared.Facet.{Facet}
 use Rattle.crossings.specs.Crossings.{S, vf, fv}
 use Rattle.solids.specs.Solids.{Solid, Half, solid, vertex, number_of, facet_half_edges}
 use Rattle.solids.specs.declared.Counted.{Counted}
-use Rattle.solids.specs.declared.Verdict.{Verdict}
-use Rattle.solids.specs.Refusals.{on_solid, given}
+use Rattle.solids.specs.declared.Refusal.{Refusal}
+use Rattle.solids.specs.declared.Refusal.TheVariants as F
+use Rattle.solids.specs.declared.Who.{Who}
+use Rattle.solids.specs.declared.Who.TheVariants as W
+use Rattle.solids.specs.Refusals.{Verdict, on_solid, given, nobody, solid_A, solid_B, only_solid, the_point}
 use Rattle.solids.specs.Admission.{beyond}
 use Rattle.solids.specs.Containment.{in_A, in_B, count_as_A, count_as_B}
+
+-- the number by which a refusal is known, and that of whom it speaks of
+abbrev pub number : Refusal → ℕ
+number F.Uneven = 1
+number F.TooMany = 2
+number F.Blank = 3
+number F.OutOfRange = 4
+number F.Unmatched = 6
+number F.UnknownCode = 7
+number F.TooShort = 8
+number F.NoLayout = 9
+number F.TooHigh = 10
+number F.NamedTwice = 11
+number F.FlaggedValue = 12
+number F.NotBelow = 13
+
+abbrev pub who_number : Who → ℕ
+who_number W.Nobody = nobody
+who_number W.SolidA = solid_A
+who_number W.SolidB = solid_B
+who_number W.OnlySolid = only_solid
+who_number W.ThePoint = the_point
 
 -- one loop serves checks 3 and 4
 abbrev pub bad : Bool → Float → Bool

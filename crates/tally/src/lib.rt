@@ -8,7 +8,7 @@ ghost use Rattle.solids.specs.Solids as So;
 ghost use Rattle.solids.specs.Admission as Ad;
 ghost use Rattle.solids.specs.Words as Sw;
 
-use solids::{Answer, Verdict};
+use solids::{Refusal, Verdict};
 
 pub fn place(p: u32, q: u32) -> usize
     requires { (p < 128) × (q < 128) }
@@ -23,8 +23,7 @@ fn count(table: &mut [u16; 16384], p: u32, q: u32)
     requires { (p < 128) × (q < 128) × (get_or table.old (128 * p + q) 0 < 65535) }
     ensures { table.new ≡ set table.old (128 * p + q) (get_or table.old (128 * p + q) 0 + 1) }
 {
-    let at = place(p, q);
-    table[at] = table[at] + 1;
+    table[place(p, q)] += 1;
 }
 
 // The three half-edges of facet f.
@@ -46,10 +45,8 @@ pub fn tally(table: &mut [u16; 16384], corners: &[u32])
     requires { Sw.Low corners.now × (length corners.now ≤ 768) × Sw.Tallied table.old [] }
     ensures { Sw.Tallied table.new (So.half_edges (So.solid [] corners.now)) }
 {
-    let mut f = 0;
-    while f < corners.len() / 3 {
+    for f in 0..corners.len() / 3 {
         count_facet(table, corners, f);
-        f += 1;
     }
 }
 
@@ -58,16 +55,11 @@ fn differ(table: &[u16; 16384], corners: &[u32], p: u32, q: u32) -> bool
     requires { (p < 128) × (q < 128) × Sw.Tallied table.now (So.half_edges (So.solid [] corners.now)) }
     ensures { result ≡ Ad.differ (So.half_edges (So.solid [] corners.now)) (p, q) }
 {
-    let there = place(p, q);
-    let back = place(q, p);
-    if table[there] == table[back] {
-        false
-    } else {
-        true
-    }
+    table[place(p, q)] != table[place(q, p)]
 }
 
 // Does one of the three half-edges of facet f differ from its way back in number?
+#[tactic(auto, unfolding(list_words::specs::Lists::any))]
 fn facet_differs(table: &[u16; 16384], corners: &[u32], f: usize) -> bool
     requires { Sw.Low corners.now × (f < length corners.now / 3) × Sw.Tallied table.now (So.half_edges (So.solid [] corners.now)) }
     ensures { result ≡ any (Ad.differ (So.half_edges (So.solid [] corners.now))) (So.facet_half_edges (So.solid [] corners.now) f) }
@@ -75,13 +67,7 @@ fn facet_differs(table: &[u16; 16384], corners: &[u32], f: usize) -> bool
     let p = corners[3 * f];
     let q = corners[3 * f + 1];
     let r = corners[3 * f + 2];
-    if differ(table, corners, p, q) {
-        true
-    } else if differ(table, corners, q, r) {
-        true
-    } else {
-        differ(table, corners, r, p)
-    }
+    differ(table, corners, p, q) || differ(table, corners, q, r) || differ(table, corners, r, p)
 }
 
 // The first facet with such a half-edge, told as the place of 6.
@@ -89,12 +75,10 @@ pub fn check_half_edges(table: &[u16; 16384], corners: &[u32]) -> Verdict
     requires { Sw.Low corners.now × Sw.Tallied table.now (So.half_edges (So.solid [] corners.now)) }
     ensures { result ≡ at_each (length corners.now / 3) (Ad.check_half_edges (So.solid [] corners.now)) }
 {
-    let mut f = 0;
-    while f < corners.len() / 3 {
+    for f in 0..corners.len() / 3 {
         if facet_differs(table, corners, f) {
-            return Verdict::Refused(Answer::on_solid(6, f));
+            return Err(Refusal::Unmatched.on_solid(f));
         }
-        f += 1;
     }
-    Verdict::Accepted
+    Ok(())
 }

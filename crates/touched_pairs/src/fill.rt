@@ -24,13 +24,9 @@ fn mark_row(first: &[u32], crossed: &[u32], z: Sizes, r: usize, marks: &mut [u64
     ensures listed { K.Listed z first.now crossed.now marks.new r (get_or first.now (r + 1) 0) }
     ensures more { K.More marks.old marks.new }
 {
-    let to = first[r + 1] as usize;
-    let mut k = first[r] as usize;
-    while k < to {
+    for k in first[r] as usize..first[r + 1] as usize {
         let c = pack::column(crossed[k]);
-        let i = mark_at(z, r, c);
-        marks::mark(marks, i);
-        k += 1;
+        marks::mark(marks, mark_at(z, r, c));
     }
 }
 
@@ -39,11 +35,8 @@ fn fill_edges(first: &[u32], crossed: &[u32], z: Sizes, marks: &mut [u64])
     requires { La.Columns z first.now crossed.now × (4 * (z.ea + z.eb) ≤ length marks.old) }
     ensures { (r : ℕ) → r < z.ea + z.fa → K.Listed z first.now crossed.now marks.new r (get_or first.now (r + 1) 0) }
 {
-    let n = z.ea + z.fa;
-    let mut r = 0;
-    while r < n {
+    for r in 0..z.ea + z.fa {
         mark_row(first, crossed, z, r, marks);
-        r += 1;
     }
 }
 
@@ -77,6 +70,7 @@ fn mark_half(halves: &[u32], z: Sizes, x: usize, h: usize, marks: &mut [u64])
     let row = 256 * rows::line_row(halves, z, h);
     let end = row + rows::line_many(z, h);
     let here = 256 * facet_row(z, x);
+    // No `for`: the next place is the next mark, and an iterator would hold the marks that the loop adds to.
     let mut i = marks::first(marks, row, end);
     while i < end {
         let c = i - row;
@@ -93,13 +87,10 @@ fn fill_facets(halves: &[u32], z: Sizes, marks: &mut [u64])
     ensures spread { (x h : ℕ) → x < z.fa + z.fb → 3 * x ≤ h → h < 3 * x + 3 → K.Spread z halves.now marks.old marks.new x h (T.others z x) }
     ensures more { K.More marks.old marks.new }
 {
-    let n = z.fa + z.fb;
-    let mut x = 0;
-    while x < n {
-        mark_half(halves, z, x, 3 * x, marks);
-        mark_half(halves, z, x, 3 * x + 1, marks);
-        mark_half(halves, z, x, 3 * x + 2, marks);
-        x += 1;
+    for x in 0..z.fa + z.fb {
+        for h in 3 * x..3 * x + 3 {
+            mark_half(halves, z, x, h, marks);
+        }
     }
 }
 

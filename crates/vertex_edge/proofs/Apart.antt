@@ -1,7 +1,7 @@
 -- Where all points of a thing lie on one side of a vertex, by x, the two miss: S is the same at each pair of vertices, so that vertex and edge miss,
 -- and so does what is worked out from them.
-use mathlib.Core.Path.{◌≡◌, ap}
-use mathlib.Core.Bool.{Bool, true, false}
+use mathlib.Core.Path.{◌≡◌, refl, ap}
+use mathlib.Core.Bool.{Bool, true, false, beq, false≢true}
 use mathlib.Core.List.{[], ◌∷◌}
 use Rattle.list_words.specs.Lists.{sum_of}
 use Rattle.points.specs.declared.Point.{Point}
@@ -19,6 +19,13 @@ side a b = at_least X (record { a = a; b = b })
 
 abbrev edge : Point → Point → Edge
 edge p q = record { start = p; end = q }
+
+-- what the test of two sides says
+pub alike : (a b : Bool) → beq a b ≡ true → b ≡ a
+alike true true h = refl
+alike false false h = refl
+alike true false h = absurd (false≢true h)
+alike false true h = absurd (false≢true h)
 
 -- ---- pairings of misses
 three : (k : Axis) {c d e : Crossing} → c ≡ Miss → d ≡ Miss → e ≡ Miss → paired k (c ∷ d ∷ e ∷ []) ≡ Miss

@@ -23,8 +23,7 @@ use Rattle.vertex_table.specs.Words as T
 use Rattle.vertex_table.proofs.Slots.{edge_in, facet_in}
 use Rattle.list_words.proofs.Places.{at_map, flat_up_to_add}
 use Rattle.vertex_table.proofs.Keys.{no_key, length_keys, key_vA, key_eAfB, key_fAeB, key_vB}
-use Rattle.layouts.proofs.Reading.{no_half}
-use Rattle.layouts.proofs.Reading.{half_at, facet_half, reads_A, reads_B, known}
+use Rattle.layouts.proofs.Reading.{no_half, half_at, facet_half, reads_A, reads_B, known}
 
 -- ---- signs
 -- a half-edge's pieces are its edge's, turned round if it runs against it

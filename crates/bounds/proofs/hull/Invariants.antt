@@ -1,10 +1,7 @@
 use mathlib.Core.Path.{◌≡◌}
-use Prim.Native.Nat.{◌-◌, ◌≤◌}
+use Prim.Native.Nat.{◌-◌}
 use Rattle.bounds.specs.Words.{hull}
 use Rattle.bounds.proofs.hull.Given as goal
 
 abbrev pub invariant-loop-i : goal.invariant-loop-i
-invariant-loop-i l = (l.begin ≤ l.i) × (l.i ≤ l.end) × (l.all ≡ hull l.points l.begin (l.i - l.begin))
-
-abbrev pub decreases-loop-i : goal.decreases-loop-i
-decreases-loop-i l = l.end - l.i
+invariant-loop-i l = l.all ≡ hull l.points l.begin (l.i - l.begin)

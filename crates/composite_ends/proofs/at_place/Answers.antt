@@ -10,7 +10,6 @@ use Rattle.composite_ends.proofs.at_place.Goals as goal
 
 pub end_of-requires : goal.end_of-requires
 end_of-requires c =
-    let s = c in
-    let n = inclusion (get_or s.args.crossed.now s.args.k 0) in
-    let small : nat_abs n ≤ 257 = omega (arith, inclusion_small (get_or s.args.crossed.now s.args.k 0)) in
-    rw (c.inclusion-n.ensures, back_32 n small) small
+    let x = get_or c.args.crossed.now c.args.k 0 in
+    let small : nat_abs (inclusion x) ≤ 257 = omega (arith, inclusion_small x) in
+    rw (c.inclusion-n.ensures, back_32 (inclusion x) small) small

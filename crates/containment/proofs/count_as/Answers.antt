@@ -1,30 +1,17 @@
 -- `count_as` meets its contract: a refusal with count 0, or the count of an admitted solid.
-use mathlib.Core.Path.{◌≡◌, sym}
+use mathlib.Core.Path.{sym}
 use mathlib.Core.List.{[], ◌∷◌}
 use native.Mathlib.Omega.{arith}
-use mir.Syntax.{w32}
-use mir.Val.{to_z, of_z}
 use Rattle.solids.specs.Solids.{lent}
 use Rattle.solids.specs.Admission.{admission, point_admission}
 use Rattle.solids.proofs.Admitted.{passed}
 use Rattle.solids.proofs.Closure.{named}
 use Rattle.solids.proofs.Checks.{all_accepted}
-use Rattle.solids.proofs.Orders.{count_as_is}
-use borrow.Author.Rules.{rules}
 use Rattle.containment.proofs.count_as.Goals as goal
 
 pub contained-requires : goal.contained-requires
 contained-requires c =
     let s = lent c.args.points c.args.corners in
-    let all = all_accepted (point_admission c.args.v ∷ admission s ∷ []) (sym c.in-Accepted.ensures) in
+    let all = all_accepted (point_admission c.args.v ∷ admission s ∷ []) (sym c.in-Ok.ensures) in
     let p = passed s all.1.0 in
     (named s p.corners_whole p.proper, omega (arith, p.few_facets, p.corners_whole))
-
-pub returns-in-Refused : goal.returns-in-Refused
-returns-in-Refused c =
-    rw (count_as_is c.args.as_b c.args.v (lent c.args.points c.args.corners), sym c.in-Refused.ensures)
-
-pub returns-in-Accepted : goal.returns-in-Accepted
-returns-in-Accepted c =
-    let h : to_z w32 (of_z w32 c.contained.result) ≡ c.contained.result = search rules in
-    rw (h, c.contained.ensures.value, count_as_is c.args.as_b c.args.v (lent c.args.points c.args.corners), sym c.in-Accepted.ensures)

@@ -1,9 +1,8 @@
 -- `sum_s` meets its contract: the facets below f are summed.
 use mathlib.Core.Path.{◌≡◌, refl, sym, ap, ap₂, ◌∙◌}
-use Prim.Native.Nat.{ℕ, ◌<◌, ◌≤◌, ◌+◌, ◌/◌}
+use Prim.Native.Nat.{ℕ, ◌≤◌, ◌+◌}
 use native.Mathlib.Omega.{arith}
 use native.Mathlib.Numerals.{add-one}
-use lib.ListN.{length}
 use lib.IntN.{ℤ, nat_abs, ◌+ℤ◌}
 use mir.Syntax.{w32}
 use mir.Val.{to_z, of_z}
@@ -19,14 +18,14 @@ use Rattle.containment.proofs.sum_s.Goals as goal
 
 -- one facet more
 one_more :
-    (p : ℕ → ℤ) (n f : ℕ) (s r : ℤ)
-    → f < n → s ≡ sum_of p (up_to f) → nat_abs s ≤ f → r ≡ p f → nat_abs r ≤ 1
-    → (f + 1 ≤ n) × (s +ℤ r ≡ sum_of p (up_to (f + 1))) × (nat_abs (s +ℤ r) ≤ f + 1)
-one_more p n f s r l i j e k = (omega arith, rw add-one (ap₂ ◌+ℤ◌ i e ∙ sym (sum_up_to_suc p f)), bnd_add f 1 s r j k)
+    (p : ℕ → ℤ) (f : ℕ) (s r : ℤ)
+    → s ≡ sum_of p (up_to f) → nat_abs s ≤ f → r ≡ p f → nat_abs r ≤ 1
+    → (s +ℤ r ≡ sum_of p (up_to (f + 1))) × (nat_abs (s +ℤ r) ≤ f + 1)
+one_more p f s r i j e k = (rw add-one (ap₂ ◌+ℤ◌ i e ∙ sym (sum_up_to_suc p f)), bnd_add f 1 s r j k)
 
 pub loop-f-init : goal.loop-f-init
 unfolding sum_of up_to
-loop-f-init c = (omega arith, refl, omega arith)
+loop-f-init c = (refl, omega arith)
 
 pub loop-f-preserved : goal.loop-f-preserved
 loop-f-preserved c =
@@ -36,5 +35,5 @@ loop-f-preserved c =
     let r = c.facet_s-sum.result in
     let h : to_z w32 (of_z w32 r) ≡ r = search rules in
     let z : to_z w32 (of_z w32 (s +ℤ r)) ≡ s +ℤ r = to_z-of_z (fits_sum s r (omega arith)) in
-    let e : r ≡ part a.as_b a.v a.points.now a.corners.now f = c.facet_s-sum.ensures.value ∙ ap (facet_S a.as_b a.v) c.facet-of_facet.ensures in
-    rw (h, z) (one_more (part a.as_b a.v a.points.now a.corners.now) (length a.corners.now / 3) f s r c.loop-f-test.true c.loop-f.invariant.1 c.loop-f.invariant.2 e c.facet_s-sum.ensures.small)
+    let e : r ≡ part a.as_b a.v a.points.now a.corners.now f = c.facet_s-sum.ensures.value ∙ ap (facet_S a.as_b a.v) c.facet.ensures in
+    rw (h, z) (one_more (part a.as_b a.v a.points.now a.corners.now) f s r c.loop-f.invariant.0 c.loop-f.invariant.1 e c.facet_s-sum.ensures.small)

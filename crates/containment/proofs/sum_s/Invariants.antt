@@ -1,8 +1,7 @@
 use mathlib.Core.Path.{◌≡◌}
 use mathlib.Core.Bool.{Bool}
 use mathlib.Core.List.{List}
-use Prim.Native.Nat.{ℕ, ◌≤◌, ◌-◌, ◌/◌}
-use lib.ListN.{length}
+use Prim.Native.Nat.{ℕ, ◌≤◌}
 use lib.IntN.{ℤ, nat_abs}
 use lib.Ieee.{Float}
 use Rattle.list_words.specs.Lists.{sum_of, up_to}
@@ -15,7 +14,4 @@ abbrev pub part : Bool → Point → List Float → List ℕ → ℕ → ℤ
 part as_b v points corners f = facet_S as_b v (facet (solid points corners) f)
 
 abbrev pub invariant-loop-f : goal.invariant-loop-f
-invariant-loop-f l = (l.f ≤ length l.corners / 3) × (l.sum ≡ sum_of (part l.as_b l.v l.points l.corners) (up_to l.f)) × (nat_abs l.sum ≤ l.f)
-
-abbrev pub decreases-loop-f : goal.decreases-loop-f
-decreases-loop-f l = length l.corners / 3 - l.f
+invariant-loop-f l = (l.sum ≡ sum_of (part l.as_b l.v l.points l.corners) (up_to l.f)) × (nat_abs l.sum ≤ l.f)

@@ -15,9 +15,9 @@ pub returns : goal.returns
 returns c =
     let v = c.args.v in
     let f = c.args.f in
-    let x = c.ev-pq.ensures.value ∙ ap (λ h. slim (ev h v)) c.edge_of.ensures in
-    let y = c.ev-qr.ensures.value ∙ ap (λ h. slim (ev h v)) c.edge_of-2.ensures in
-    let z = c.ev-rp.ensures.value ∙ ap (λ h. slim (ev h v)) c.edge_of-3.ensures in
+    let x = c.ev-pq.ensures ∙ ap (λ h. slim (ev h v)) c.edge_pq.ensures in
+    let y = c.ev-qr.ensures ∙ ap (λ h. slim (ev h v)) c.edge_qr.ensures in
+    let z = c.ev-rp.ensures ∙ ap (λ h. slim (ev h v)) c.edge_rp.ensures in
     let e = c.three.ensures.value ∙ three_same (not f.pq) (not f.qr) (not f.rp) x y z ∙ fv_is f v in
     let h : to_z w32 (of_z w32 c.three.result) ≡ c.three.result = search rules in
     rw h (record { value = e; small = rw e (S_size Z 1 (fv f v) (small_fv f v)) })

@@ -14,9 +14,9 @@ pub returns : goal.returns
 returns c =
     let v = c.args.v in
     let f = c.args.f in
-    let x = c.ve-pq.ensures.value ∙ ap (λ h. slim (ve v h)) c.edge_of.ensures in
-    let y = c.ve-qr.ensures.value ∙ ap (λ h. slim (ve v h)) c.edge_of-2.ensures in
-    let z = c.ve-rp.ensures.value ∙ ap (λ h. slim (ve v h)) c.edge_of-3.ensures in
+    let x = c.ve-pq.ensures ∙ ap (λ h. slim (ve v h)) c.edge_pq.ensures in
+    let y = c.ve-qr.ensures ∙ ap (λ h. slim (ve v h)) c.edge_qr.ensures in
+    let z = c.ve-rp.ensures ∙ ap (λ h. slim (ve v h)) c.edge_rp.ensures in
     let e = c.three.ensures.value ∙ three_same f.pq f.qr f.rp x y z ∙ vf_is v f in
     let h : to_z w32 (of_z w32 c.three.result) ≡ c.three.result = search rules in
     rw h (record { value = e; small = rw e (S_size Z 1 (vf v f) (small_vf v f)) })

@@ -1,11 +1,7 @@
-use Prim.Native.Nat.{◌-◌}
-use Rattle.solids.specs.Solids.{solid}
+use Rattle.edges.specs.Readers.{solid_of}
 use Rattle.crossing_points.specs.Words.{point_on}
 use Rattle.crossing_points.proofs.Stretches.{Stretched}
 use Rattle.crossing_points.proofs.put_row.Given as goal
 
 abbrev pub invariant-loop-k : goal.invariant-loop-k
-invariant-loop-k l = Stretched (point_on l.row (solid l.bp l.bc)) l.crossed l.from l.to l.initial.list l.list l.at l.next l.k
-
-abbrev pub decreases-loop-k : goal.decreases-loop-k
-decreases-loop-k l = l.to - l.k
+invariant-loop-k l = Stretched (point_on l.row (solid_of l.b)) l.crossed l.from l.to l.initial.list l.list l.at l.next l.k

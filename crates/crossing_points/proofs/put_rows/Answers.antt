@@ -1,13 +1,12 @@
 -- `put_rows` meets its contract: the first r rows are stored.
-use Rattle.list_words.proofs.Places.{rest_all}
-use Rattle.solids.specs.Solids.{solid}
+use Rattle.edges.specs.Readers.{solid_of}
 use Rattle.crossing_points.proofs.Rowwise.{row_columns, rowed_none, rowed_room, rowed_next, rowed_all}
 use Rattle.crossing_points.proofs.put_rows.Goals as goal
 
 pub loop-r-init : goal.loop-r-init
 loop-r-init c =
     let a = c.args in
-    rowed_none (solid a.ap.now a.ac.now) (solid a.bp.now a.bc.now) a.first.now a.crossed.now a.list.now a.at
+    rowed_none (solid_of a.a) (solid_of a.b) a.first.now a.crossed.now a.list.now a.at
 
 pub put_row-next-requires : goal.put_row-next-requires
 put_row-next-requires c =
@@ -15,11 +14,10 @@ put_row-next-requires c =
     let e = c.requires.z_value.0 in
     let h = c.loop-r-test.true in
     let q = c.row_at-row.ensures in
-    rw (rest_all 768 a.ends.now) (record {
-      ready = c.requires.ready.1;
-      to_in_bounds = row_columns (solid a.ap.now a.ac.now) (solid a.bp.now a.bc.now) a.first.now a.crossed.now e c.requires.z_value.1 h q;
+    record {
+      to_in_bounds = row_columns (solid_of a.a) (solid_of a.b) a.first.now a.crossed.now e c.requires.z_value.1 h q;
       to_in_bounds_2 = rowed_room c.loop-r.invariant (rw e at h) q c.requires.crossed_in_bounds;
-    })
+    }
 
 pub loop-r-preserved : goal.loop-r-preserved
 loop-r-preserved c =

@@ -9,7 +9,7 @@ use mir.Val.{to_z, of_z}
 use Rattle.list_words.specs.Lists.{nonzero}
 use Rattle.list_words.proofs.Widths.{back_32}
 use Rattle.crossings.proofs.Fits.{fits, zero_not, not_zero}
-use Rattle.solids.specs.Solids.{solid}
+use Rattle.edges.specs.Readers.{solid_of}
 use Rattle.layouts.specs.Words.{packed}
 use Rattle.crossing_rows.specs.Words.{count_of}
 use Rattle.list_words.proofs.Integers.{scaled}
@@ -38,14 +38,14 @@ returns-then-n-eq0-clause-added c =
     let r = c.count_of in
     let s = c.args.sign in
     let z = subst (λ x. nonzero (s *ℤ x) ≡ false) r.ensures.value (none s r.result c.requires.sign_bound.0 r.ensures.small c.if-n-eq0.true) in
-    rw (crossing_zero s (count_of c.args.row (solid c.args.bp.now c.args.bc.now)) c.args.column z) (behind_none c.args.crossed.now c.args.k c.requires.sign_bound.1)
+    rw (crossing_zero s (count_of c.args.row (solid_of c.args.b)) c.args.column z) (behind_none c.args.crossed.now c.args.k c.requires.sign_bound.1)
 
 pub returns-then-crossed-k-clause-added : goal.returns-then-crossed-k-clause-added
 returns-then-crossed-k-clause-added c =
     let r = c.count_of in
     let s = c.args.sign in
     let z = subst (λ x. nonzero (s *ℤ x) ≡ true) r.ensures.value (some s r.result c.requires.sign_bound.0 r.ensures.small c.if-n-eq0.false) in
-    rw (crossing_one s (count_of c.args.row (solid c.args.bp.now c.args.bc.now)) c.args.column z) (omega (arith, c.if-crossed-k.true))
+    rw (crossing_one s (count_of c.args.row (solid_of c.args.b)) c.args.column z) (omega (arith, c.if-crossed-k.true))
 
 pub returns-clause-added : goal.returns-clause-added
 returns-clause-added c =
@@ -55,5 +55,5 @@ returns-clause-added c =
     let y = some s r.result small r.ensures.small c.if-n-eq0.false in
     let e = c.packed.ensures ∙ ap (λ x. packed (c.args.column, x)) (stored s r.result small r.ensures.small) in
     let z = subst (λ x. nonzero (s *ℤ x) ≡ true) r.ensures.value y in
-    rw (e, crossing_one s (count_of c.args.row (solid c.args.bp.now c.args.bc.now)) c.args.column z, ← r.ensures.value)
+    rw (e, crossing_one s (count_of c.args.row (solid_of c.args.b)) c.args.column z, ← r.ensures.value)
     (behind_packed c.args.crossed.now c.args.k c.args.column (s *ℤ r.result) c.if-crossed-k.false (product_small s r.result small r.ensures.small) y)

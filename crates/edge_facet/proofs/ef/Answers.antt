@@ -1,6 +1,9 @@
--- `ef` meets its contract: it gathers its lower pairings.
-use Rattle.crossings.specs.Crossings.{ef, ee}
-use Rattle.gathering.proofs.Gathering.{none, one_more, one_less, half_less, all_of}
+-- `ef` meets its contract: it is the pairing of its lower pairings.
+use mathlib.Core.Path.{refl, ap, ap₂, ◌∙◌}
+use mathlib.Core.List.{◌∷◌}
+use Rattle.points.specs.declared.Axis.TheVariants.{Z}
+use Rattle.crossings.specs.Crossings.{against, paired, ee, ef}
+use Rattle.crossings.proofs.Halves.{half_less}
 use Rattle.crossings.proofs.Sizes.{two_ef}
 use Rattle.edge_facet.proofs.ef.Goals as goal
 
@@ -8,11 +11,9 @@ pub returns : goal.returns
 unfolding ef
 returns c =
     let a = c.args in
-    let g0 = none c.empty.ensures.value in
-    let g1 = half_less g0 (ee a.e) a.f.rp a.f.r a.f.p c.eh-3.ensures.value c.against-rp.ensures.value c.with.ensures.value in
-    let g2 = half_less g1 (ee a.e) a.f.qr a.f.q a.f.r c.eh-2.ensures.value c.against-qr.ensures.value c.with-2.ensures.value in
-    let g3 = half_less g2 (ee a.e) a.f.pq a.f.p a.f.q c.eh.ensures.value c.against-pq.ensures.value c.with-of_b.ensures.value in
-    let g4 = one_less g3 c.vf.ensures.value c.against-end.ensures.value c.with-3.ensures.value in
-    let g5 = one_more g4 c.vf-start.ensures.value c.with-4.ensures.value in
-    let e = all_of g5 c.finish.ensures in
+    let pq = half_less (ee a.e) a.f.pq a.f.p a.f.q c.edge_pq.ensures c.ee.ensures.value c.signed.ensures.value c.against-pq.ensures.value in
+    let qr = half_less (ee a.e) a.f.qr a.f.q a.f.r c.edge_qr.ensures c.ee-2.ensures.value c.signed-2.ensures.value c.against-qr.ensures.value in
+    let rp = half_less (ee a.e) a.f.rp a.f.r a.f.p c.edge_rp.ensures c.ee-3.ensures.value c.signed-3.ensures.value c.against-rp.ensures.value in
+    let end = c.against-end.ensures.value ∙ ap against c.vf.ensures.value in
+    let e = c.paired.ensures ∙ ap (paired Z) (ap₂ ◌∷◌ c.vf-start.ensures.value (ap₂ ◌∷◌ end (ap₂ ◌∷◌ pq (ap₂ ◌∷◌ qr (ap₂ ◌∷◌ rp refl))))) in
     record { value = e; small = rw e (two_ef a.e a.f) }

@@ -4,22 +4,16 @@ use mathlib.Core.Bool.{true, false}
 use mathlib.Core.List.{List, [], ◌∷◌, ◌++◌, append-nil}
 use Prim.Native.Nat.{ℕ, ◌+◌, ◌<◌, ◌≤◌}
 use native.Mathlib.Omega.{arith}
-use native.Mathlib.Nat.{mul-le-mul_right}
 use Rattle.list_words.proofs.Sums.{All}
 use Rattle.solids.specs.Solids.{Half, solid, half_edges, is_edge}
-use Rattle.edges.specs.Words.{edges_seen, Listed}
-use Rattle.edges.proofs.Edges.{edges_next, edges_few, Earlier, edges_earlier, listed_next}
+use Rattle.edges.specs.Words.{edges_seen}
+use Rattle.edges.proofs.Edges.{edges_next, Earlier, edges_earlier, listed_next}
 use Rattle.edges.proofs.put_edge.Goals as goal
 
 -- what is known when the call begins
 module _ (corners : List ℕ) (n p q : ℕ) (p_low : p < n) (q_low : q < n) (n_low : n ≤ 128) where
   abbrev so_far : List Half
   so_far = edges_seen corners n p q
-
-  few : (ends numbers : List ℕ) (k : ℕ) → Listed so_far ends numbers k → k ≤ 16384
-  few ends numbers k l =
-      let h : p ≤ 127 = omega arith in
-      omega (arith, l.many, edges_few corners n p q, mul-le-mul_right n h)
 
   early : All (Earlier p q) so_far
   early = edges_earlier corners n p q n_low (omega arith)
@@ -30,25 +24,10 @@ module _ (corners : List ℕ) (n p q : ℕ) (p_low : p < n) (q_low : q < n) (n_l
   no_more : is_edge (half_edges (solid [] corners)) (p, q) ≡ false → edges_seen corners n p (q + 1) ≡ so_far
   no_more e = edges_next corners n p q ∙ rw e (append-nil so_far)
 
-pub overflow_mul-k : goal.overflow_mul-k
-overflow_mul-k c = let (a, b, m, t) = c.requires.p_lt_n in omega (arith, few c.args.corners.now c.args.n c.args.p c.args.q a b m _ _ c.args.k c.requires.listed)
-
-pub overflow_mul-k-then-joins : goal.overflow_mul-k-then-joins
-overflow_mul-k-then-joins c = let (a, b, m, t) = c.requires.p_lt_n in omega (arith, few c.args.corners.now c.args.n c.args.p c.args.q a b m _ _ c.args.k c.requires.listed)
-
-pub overflow_add-k : goal.overflow_add-k
-overflow_add-k c = let (a, b, m, t) = c.requires.p_lt_n in omega (arith, few c.args.corners.now c.args.n c.args.p c.args.q a b m _ _ c.args.k c.requires.listed)
-
-pub overflow_cast-numbers : goal.overflow_cast-numbers
-overflow_cast-numbers c = let (a, b, m, t) = c.requires.p_lt_n in omega (arith, few c.args.corners.now c.args.n c.args.p c.args.q a b m _ _ c.args.k c.requires.listed)
-
-pub overflow_add-result : goal.overflow_add-result
-overflow_add-result c = let (a, b, m, t) = c.requires.p_lt_n in omega (arith, few c.args.corners.now c.args.n c.args.p c.args.q a b m _ _ c.args.k c.requires.listed)
-
 pub returns-then-joins : goal.returns-then-joins
 returns-then-joins c =
-    let (a, b, m, t) = c.requires.p_lt_n in
-    let cs = c.args.corners.now in
+    let (a, b, m) = c.requires.p_lt_n in
+    let cs = c.args.t.corners.now in
     let n = c.args.n in
     let p = c.args.p in
     let q = c.args.q in
@@ -58,5 +37,5 @@ returns-then-joins c =
 
 pub returns : goal.returns
 returns c =
-    let (a, b, m, t) = c.requires.p_lt_n in
-    rw (no_more c.args.corners.now c.args.n c.args.p c.args.q a b m (sym c.joins.ensures ∙ c.if-joins.false)) c.requires.listed
+    let (a, b, m) = c.requires.p_lt_n in
+    rw (no_more c.args.t.corners.now c.args.n c.args.p c.args.q a b m (sym c.joins.ensures ∙ c.if-joins.false)) c.requires.listed

@@ -1,11 +1,8 @@
 use mathlib.Core.Path.{◌≡◌}
 use mathlib.Core.List.{List}
-use Prim.Native.Nat.{ℕ, ◌≤◌, ◌-◌, ◌/◌}
+use Prim.Native.Nat.{ℕ}
 use lib.Ieee.{Float}
-use lib.ListN.{length}
-use Rattle.solids.specs.declared.Verdict.{Verdict}
-use Rattle.solids.specs.declared.Verdict.TheVariants.{Accepted}
-use Rattle.solids.specs.Refusals.{at_each}
+use Rattle.solids.specs.Refusals.{Verdict, accepted, at_each}
 use Rattle.solids.specs.Solids.{solid}
 use Rattle.solids.specs.Admission.{check_facet}
 use Rattle.faults.proofs.check_corners.Given as goal
@@ -14,7 +11,4 @@ abbrev pub check : List Float → List ℕ → ℕ → Verdict
 check points corners = check_facet (solid points corners)
 
 abbrev pub invariant-loop-f : goal.invariant-loop-f
-invariant-loop-f l = (l.f ≤ length l.corners / 3) × (at_each l.f (check l.points l.corners) ≡ Accepted)
-
-abbrev pub decreases-loop-f : goal.decreases-loop-f
-decreases-loop-f l = length l.corners / 3 - l.f
+invariant-loop-f l = at_each l.f (check l.points l.corners) ≡ accepted

@@ -3,7 +3,6 @@ use mathlib.Core.Path.{◌≡◌, refl, sym, ap, ◌∙◌}
 use mathlib.Core.Bool.{Bool}
 use mathlib.Core.List.{List, []}
 use Prim.Native.Nat.{ℕ, ◌/◌}
-use native.Mathlib.Omega.{arith}
 use lib.Ieee.{Float}
 use lib.ListN.{length}
 use Rattle.list_words.specs.Lists.{up_to, any}
@@ -23,18 +22,16 @@ seen blanks points i v b e h = ap (given (on_solid (bad_number blanks) i)) (sym 
 
 pub loop-i-init : goal.loop-i-init
 unfolding in_order up_to
-loop-i-init c = (omega arith, refl)
+loop-i-init c = refl
 
 pub returns-then-bad_point : goal.returns-then-bad_point
 returns-then-bad_point c =
     let a = c.args in
-    sym (each_at (check a.blanks a.points.now) (length a.points.now / 3) c.loop-i.i _ c.loop-i-test.true c.loop-i.invariant.1
-    (seen a.blanks a.points.now c.loop-i.i _ _ c.vertex.ensures c.bad_point.ensures ∙ rw (c.if-bad_point.true, c.on_solid.ensures, c.bad_number.ensures)))
+    sym (each_at (check a.blanks a.points.now) (length a.points.now / 3) c.loop-i.i _ c.loop-i-test.true c.loop-i.invariant
+    (seen a.blanks a.points.now c.loop-i.i _ _ c.vertex.ensures c.bad_point.ensures ∙ rw (c.if-bad_point.true, c.on_solid.ensures, c.bad_refusal.ensures)))
 
 pub loop-i-preserved : goal.loop-i-preserved
 loop-i-preserved c =
-    let a = c.args in (
-      omega arith,
-      each_next (check a.blanks a.points.now) c.loop-i.i c.loop-i.invariant.1
-          (seen a.blanks a.points.now c.loop-i.i _ _ c.vertex.ensures c.bad_point.ensures ∙ rw c.if-bad_point.false),
-    )
+    let a = c.args in
+    each_next (check a.blanks a.points.now) c.loop-i.i c.loop-i.invariant
+    (seen a.blanks a.points.now c.loop-i.i _ _ c.vertex.ensures c.bad_point.ensures ∙ rw c.if-bad_point.false)

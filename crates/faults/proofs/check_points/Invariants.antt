@@ -1,12 +1,9 @@
 use mathlib.Core.Path.{◌≡◌}
 use mathlib.Core.Bool.{Bool}
 use mathlib.Core.List.{List, []}
-use Prim.Native.Nat.{ℕ, ◌≤◌, ◌-◌, ◌/◌}
+use Prim.Native.Nat.{ℕ}
 use lib.Ieee.{Float}
-use lib.ListN.{length}
-use Rattle.solids.specs.declared.Verdict.{Verdict}
-use Rattle.solids.specs.declared.Verdict.TheVariants.{Accepted}
-use Rattle.solids.specs.Refusals.{at_each}
+use Rattle.solids.specs.Refusals.{Verdict, accepted, at_each}
 use Rattle.solids.specs.Solids.{solid}
 use Rattle.solids.specs.Words.{check_vertex}
 use Rattle.faults.proofs.check_points.Given as goal
@@ -15,7 +12,4 @@ abbrev pub check : Bool → List Float → ℕ → Verdict
 check blanks points = check_vertex blanks (solid points [])
 
 abbrev pub invariant-loop-i : goal.invariant-loop-i
-invariant-loop-i l = (l.i ≤ length l.points / 3) × (at_each l.i (check l.blanks l.points) ≡ Accepted)
-
-abbrev pub decreases-loop-i : goal.decreases-loop-i
-decreases-loop-i l = length l.points / 3 - l.i
+invariant-loop-i l = at_each l.i (check l.blanks l.points) ≡ accepted

@@ -1,11 +1,10 @@
-use Prim.Native.Nat.{◌+◌, ◌-◌}
+use Prim.Native.Nat.{◌-◌}
 use lib.ListN.{length}
-use Rattle.list_words.specs.Lists.{one_if}
-use Rattle.housefile_reader.proofs.Walks.{Walked}
+use Rattle.housefile_reader.proofs.Walks.{left, Walked}
 use Rattle.housefile_reader.proofs.scan.Given as goal
 
-abbrev pub invariant-loop-w : goal.invariant-loop-w
-invariant-loop-w l = Walked l.bytes l.w l.points l.corners
+abbrev pub invariant-loop-found : goal.invariant-loop-found
+invariant-loop-found l = Walked l.bytes l.w (left l.w l.bytes) l.points l.corners
 
-abbrev pub decreases-loop-w : goal.decreases-loop-w
-decreases-loop-w l = one_if l.w.going + (length l.bytes - l.w.used)
+abbrev pub decreases-loop-found : goal.decreases-loop-found
+decreases-loop-found l = length l.bytes - l.w.used

@@ -3,7 +3,6 @@ use mathlib.Core.Path.{refl, ◌∙◌}
 use mathlib.Core.List.{[], flat_map}
 use Prim.Native.Nat.{◌+◌, ◌*◌}
 use native.Mathlib.Nat.{add-zero, le_antisymm}
-use native.Mathlib.Omega.{arith}
 use lib.Seq.{length-sets}
 use Rattle.list_words.specs.Lists.{up_to}
 use Rattle.list_stores.proofs.Stores.{run_next}
@@ -17,7 +16,7 @@ use Rattle.housefile_writer.proofs.put_facets.Goals as goal
 
 pub loop-f-init : goal.loop-f-init
 unfolding up_to flat_map
-loop-f-init c = (omega arith, refl, refl)
+loop-f-init c = (refl, refl)
 
 pub loop-f-preserved : goal.loop-f-preserved
 loop-f-preserved c =
@@ -25,11 +24,10 @@ loop-f-preserved c =
     let old = c.args.bytes.now in
     let at = c.args.at in
     let e = run_next (facet_bytes cs) 14 (λ f. length_encoded (Fc (corner (solid [] cs) f 0) (corner (solid [] cs) f 1) (corner (solid [] cs) f 2))) old at c.loop-f.f in (
-      omega arith,
-      rw c.put_facet.ensures (length-sets c.loop-f.bytes (at + 14 * c.loop-f.f) (encoded (Fc _ _ _)) ∙ c.loop-f.invariant.1),
-      rw (c.put_facet.ensures, c.loop-f.invariant.2) (rw (add-zero (3 * c.loop-f.f)) at e),
+      rw c.put_facet.ensures (length-sets c.loop-f.bytes (at + 14 * c.loop-f.f) (encoded (Fc _ _ _)) ∙ c.loop-f.invariant.0),
+      rw (c.put_facet.ensures, c.loop-f.invariant.1) (rw (add-zero (3 * c.loop-f.f)) at e),
     )
 
 pub returns : goal.returns
 unfolding facet_part
-returns c = rw (← le_antisymm c.loop-f.invariant.0 c.loop-f-test.false) c.loop-f.invariant.2
+returns c = rw (← le_antisymm c.loop-f.auto.f-end c.loop-f-test.false) c.loop-f.invariant.1

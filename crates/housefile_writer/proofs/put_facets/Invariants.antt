@@ -1,6 +1,6 @@
 use mathlib.Core.Path.{◌≡◌}
 use mathlib.Core.List.{List, [], flat_map}
-use Prim.Native.Nat.{ℕ, ◌-◌, ◌/◌, ◌≤◌}
+use Prim.Native.Nat.{ℕ}
 use lib.ListN.{length}
 use lib.Seq.{sets}
 use Rattle.list_words.specs.Lists.{up_to}
@@ -14,7 +14,4 @@ facet_bytes corners f = encoded (Fc (corner (solid [] corners) f 0) (corner (sol
 
 abbrev pub invariant-loop-f : goal.invariant-loop-f
 invariant-loop-f l =
-    (l.f ≤ length l.corners / 3) × (length l.bytes ≡ length l.initial.bytes) × (l.bytes ≡ sets l.initial.bytes l.at (flat_map (facet_bytes l.corners) (up_to l.f)))
-
-abbrev pub decreases-loop-f : goal.decreases-loop-f
-decreases-loop-f l = length l.corners / 3 - l.f
+    (length l.bytes ≡ length l.initial.bytes) × (l.bytes ≡ sets l.initial.bytes l.at (flat_map (facet_bytes l.corners) (up_to l.f)))

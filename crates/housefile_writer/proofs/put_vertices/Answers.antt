@@ -3,7 +3,6 @@ use mathlib.Core.Path.{refl, ◌∙◌}
 use mathlib.Core.List.{[], flat_map}
 use Prim.Native.Nat.{◌*◌}
 use native.Mathlib.Nat.{zero-add, le_antisymm}
-use native.Mathlib.Omega.{arith}
 use lib.Seq.{length-sets}
 use borrow.Author.Rules.{rules}
 use Rattle.list_words.specs.Lists.{up_to}
@@ -19,7 +18,7 @@ use Rattle.housefile_writer.proofs.put_vertices.Goals as goal
 
 pub loop-i-init : goal.loop-i-init
 unfolding up_to flat_map
-loop-i-init c = (omega arith, refl, refl)
+loop-i-init c = (refl, refl)
 
 pub put_vertex-requires : goal.put_vertex-requires
 put_vertex-requires c =
@@ -30,11 +29,10 @@ loop-i-preserved c =
     let ps = c.args.points.now in
     let old = c.args.bytes.now in
     let e = run_next (vertex_bytes ps) 26 (λ i. length_encoded (Vx (vertex (solid ps []) i))) old 0 c.loop-i.i in (
-      omega arith,
-      rw c.put_vertex.ensures (length-sets c.loop-i.bytes (26 * c.loop-i.i) (encoded (Vx _)) ∙ c.loop-i.invariant.1),
-      rw (c.put_vertex.ensures, c.vertex.ensures, c.loop-i.invariant.2) (rw (zero-add (26 * c.loop-i.i)) at e),
+      rw c.put_vertex.ensures (length-sets c.loop-i.bytes (26 * c.loop-i.i) (encoded (Vx _)) ∙ c.loop-i.invariant.0),
+      rw (c.put_vertex.ensures, c.vertex.ensures, c.loop-i.invariant.1) (rw (zero-add (26 * c.loop-i.i)) at e),
     )
 
 pub returns : goal.returns
 unfolding vertex_part
-returns c = rw (← le_antisymm c.loop-i.invariant.0 c.loop-i-test.false) c.loop-i.invariant.2
+returns c = rw (← le_antisymm c.loop-i.auto.i-end c.loop-i-test.false) c.loop-i.invariant.1

@@ -1,6 +1,6 @@
 use mathlib.Core.Path.{◌≡◌}
 use mathlib.Core.List.{List, [], flat_map}
-use Prim.Native.Nat.{ℕ, ◌-◌, ◌/◌, ◌≤◌}
+use Prim.Native.Nat.{ℕ}
 use lib.ListN.{length}
 use lib.Seq.{sets}
 use lib.Ieee.{Float}
@@ -15,7 +15,4 @@ vertex_bytes points i = encoded (Vx (vertex (solid points []) i))
 
 abbrev pub invariant-loop-i : goal.invariant-loop-i
 invariant-loop-i l =
-    (l.i ≤ length l.points / 3) × (length l.bytes ≡ length l.initial.bytes) × (l.bytes ≡ sets l.initial.bytes 0 (flat_map (vertex_bytes l.points) (up_to l.i)))
-
-abbrev pub decreases-loop-i : goal.decreases-loop-i
-decreases-loop-i l = length l.points / 3 - l.i
+    (length l.bytes ≡ length l.initial.bytes) × (l.bytes ≡ sets l.initial.bytes 0 (flat_map (vertex_bytes l.points) (up_to l.i)))

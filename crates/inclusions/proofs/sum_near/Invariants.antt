@@ -1,21 +1,17 @@
 use mathlib.Core.Path.{◌≡◌}
 use mathlib.Core.Bool.{Bool}
-use mathlib.Core.List.{List}
-use Prim.Native.Nat.{ℕ, ◌≤◌, ◌-◌}
-use lib.ListN.{length, take}
+use Prim.Native.Nat.{ℕ, ◌≤◌}
+use lib.ListN.{take}
 use lib.IntN.{ℤ, nat_abs}
-use lib.Ieee.{Float}
 use Rattle.list_words.specs.Lists.{sum_of}
 use Rattle.points.specs.declared.Point.{Point}
-use Rattle.solids.specs.Solids.{solid, facet}
+use Rattle.solids.specs.Solids.{Solid, facet}
 use Rattle.solids.specs.Words.{facet_S}
+use Rattle.edges.specs.Readers.{solid_of}
 use Rattle.inclusions.proofs.sum_near.Given as goal
 
-abbrev pub part : Bool → Point → List Float → List ℕ → ℕ → ℤ
-part as_b v points corners f = facet_S as_b v (facet (solid points corners) f)
+abbrev pub part : Bool → Point → Solid → ℕ → ℤ
+part as_b v s f = facet_S as_b v (facet s f)
 
-abbrev pub invariant-loop-i : goal.invariant-loop-i
-invariant-loop-i l = (l.i ≤ length l.columns) × (l.sum ≡ sum_of (part l.as_b l.v l.points l.corners) (take l.i l.columns)) × (nat_abs l.sum ≤ l.i)
-
-abbrev pub decreases-loop-i : goal.decreases-loop-i
-decreases-loop-i l = length l.columns - l.i
+abbrev pub invariant-loop-c : goal.invariant-loop-c
+invariant-loop-c l = (l.sum ≡ sum_of (part l.as_b l.v (solid_of l.near.solid)) (take l.c-index l.near.columns.now)) × (nat_abs l.sum ≤ l.c-index)

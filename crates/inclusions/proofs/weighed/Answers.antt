@@ -3,9 +3,8 @@ use mathlib.Core.Path.{refl}
 use Prim.Native.Nat.{◌≤◌}
 use native.Mathlib.Omega.{arith}
 use lib.IntN.{ℤ, nat_abs, ◌+ℤ◌, ◌*ℤ◌}
-use Rattle.list_words.proofs.Integers.{bnd_add}
+use Rattle.list_words.proofs.Integers.{bnd_add, scaled}
 use Rattle.list_words.proofs.Widths.{back_16, back_32, fits_16}
-use Rattle.list_words.proofs.Integers.{scaled}
 use Rattle.inclusions.proofs.weighed.Goals as goal
 
 module _ (alone times x : ℤ) (one : nat_abs alone ≤ 1) (t : nat_abs times ≤ 1) (h : nat_abs x ≤ 256) where

@@ -1,6 +1,6 @@
 use mathlib.Core.Path.{◌≡◌}
 use mathlib.Core.List.{List, flat_map}
-use Prim.Native.Nat.{ℕ, ◌-◌, ◌≤◌}
+use Prim.Native.Nat.{ℕ}
 use lib.ListN.{length}
 use lib.Seq.{sets}
 use lib.Ieee.{Float}
@@ -15,7 +15,4 @@ abbrev pub numbers : Span → ℕ → List Float
 numbers b n = coordinates (corner_point b n)
 
 abbrev pub invariant-loop-n : goal.invariant-loop-n
-invariant-loop-n l = (l.n ≤ 8) × (length l.points ≡ length l.initial.points) × (l.points ≡ sets l.initial.points 0 (flat_map (numbers l.b) (up_to l.n)))
-
-abbrev pub decreases-loop-n : goal.decreases-loop-n
-decreases-loop-n l = 8 - l.n
+invariant-loop-n l = (length l.points ≡ length l.initial.points) × (l.points ≡ sets l.initial.points 0 (flat_map (numbers l.b) (up_to l.n)))

@@ -1,11 +1,7 @@
 use mathlib.Core.Path.{◌≡◌}
-use Prim.Native.Nat.{◌-◌, ◌≤◌}
-use lib.ListN.{length}
-use Rattle.placed_ends.specs.Words.{put_times}
+use Prim.Native.Nat.{◌-◌}
+use Rattle.placed_ends.specs.Words.{place_of, put_times}
 use Rattle.placed_ends.proofs.put_times.Given as goal
 
-abbrev pub invariant-loop-i : goal.invariant-loop-i
-invariant-loop-i l = (l.i ≤ l.n) × ((length l.list ≡ length l.initial.list) × (put_times l.side l.v (l.n - l.i) (l.list, l.at) ≡ put_times l.side l.v l.n (l.initial.list, l.k)))
-
-abbrev pub decreases-loop-i : goal.decreases-loop-i
-decreases-loop-i l = l.n - l.i
+abbrev pub invariant-loop : goal.invariant-loop
+invariant-loop l = put_times (place_of l.side) l.v (l.n - l.counter) (l.list, l.at) ≡ put_times (place_of l.side) l.v l.n (l.initial.list, l.k)

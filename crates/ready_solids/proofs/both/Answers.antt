@@ -5,7 +5,7 @@ use Prim.Native.Nat.{ℕ}
 use native.Mathlib.Omega.{arith}
 use lib.ListN.{length, drop, length-drop}
 use lib.Seq.{length-sets, length-take-le}
-use Rattle.solids.specs.Solids.{lent}
+use Rattle.ready_solids.specs.Words.{solid_of}
 use Rattle.edges.specs.Words.{Ready}
 use Rattle.layouts.specs.Words.{half_list}
 use Rattle.half_edges.proofs.Fill.{front_halves}
@@ -24,22 +24,20 @@ ready-ea-requires-clause-ends_len c = length-take-le 768 c.args.ends.now (omega 
 
 pub ready-ea-requires-clause-corners_in_bounds : goal.ready-ea-requires-clause-corners_in_bounds
 ready-ea-requires-clause-corners_in_bounds c =
-    let (ok_a, ok_b) = c.requires.ac_value in
-    omega (arith, few_halves (lent c.args.ap c.args.ac) (lent c.args.bp c.args.bc) ok_a ok_b, c.requires.ends_len.1)
+    omega (arith, few_halves (solid_of c.args.a) (solid_of c.args.b) c.args.a.admitted c.args.b.admitted, c.requires.ends_len.1)
 
 pub ready-eb-requires-clause-corners_in_bounds : goal.ready-eb-requires-clause-corners_in_bounds
 ready-eb-requires-clause-corners_in_bounds c =
-    let (ok_a, ok_b) = c.requires.ac_value in
-    let a = lent c.args.ap c.args.ac in
+    let a = solid_of c.args.a in
     let e = ap length c.ready-ea.ensures.halves ∙ length-sets c.args.halves.now 0 (half_list a) in
-    omega (arith, e, few_halves a (lent c.args.bp c.args.bc) ok_a ok_b, c.requires.ends_len.1)
+    omega (arith, e, few_halves a (solid_of c.args.b) c.args.a.admitted c.args.b.admitted, c.requires.ends_len.1)
 
 pub returns-clause-ready_a : goal.returns-clause-ready_a
 returns-clause-ready_a c =
     let x = c.ready-ea in
     let y = c.ready-eb in
     let ends = c.args.ends.now in
-    subst (Ready c.args.ap.now c.args.ac.now)
+    subst (Ready c.args.a.points.now c.args.a.corners.now)
     (sym (first_part x.new.ends y.new.ends (drop 768 ends) x.ensures.ready.room y.ensures.ready.room (rest ends c.requires.ends_len.0))) x.ensures.ready
 
 pub returns-clause-ready_b : goal.returns-clause-ready_b
@@ -47,13 +45,12 @@ returns-clause-ready_b c =
     let x = c.ready-ea in
     let y = c.ready-eb in
     let ends = c.args.ends.now in
-    subst (Ready c.args.bp.now c.args.bc.now)
+    subst (Ready c.args.b.points.now c.args.b.corners.now)
     (sym (second_part x.new.ends y.new.ends (drop 768 ends) x.ensures.ready.room y.ensures.ready.room (rest ends c.requires.ends_len.0))) y.ensures.ready
 
 pub returns-clause-front : goal.returns-clause-front
 returns-clause-front c =
-    let (ok_a, ok_b) = c.requires.ac_value in
-    let a = lent c.args.ap c.args.ac in
-    let b = lent c.args.bp c.args.bc in
+    let a = solid_of c.args.a in
+    let b = solid_of c.args.b in
     rw c.sizes.ensures
-    (front_halves a b c.args.halves.now (omega (arith, few_halves a b ok_a ok_b, c.requires.ends_len.1)) c.ready-ea.ensures.halves c.ready-eb.ensures.halves)
+    (front_halves a b c.args.halves.now (omega (arith, few_halves a b c.args.a.admitted c.args.b.admitted, c.requires.ends_len.1)) c.ready-ea.ensures.halves c.ready-eb.ensures.halves)

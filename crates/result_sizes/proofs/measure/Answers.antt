@@ -20,15 +20,22 @@ fill-requires-clause-fb_in_bounds c =
     let sz = z_sized g.op g.a g.b g.ok_a g.ok_b g.lists in
     (omega (arith, sz.ea, sz.eb, sz.fa, sz.fb), omega arith)
 
-pub count_triangles-triangles-requires : goal.count_triangles-triangles-requires
-count_triangles-triangles-requires c =
+pub count-triangles-requires-clause-ready : goal.count-triangles-requires-clause-ready
+count-triangles-requires-clause-ready c =
     let g = c.requires.0 in
     let v = c.number-n in
-    let n = v.ensures.numbered g.op g.a g.b g.lists.of_z_list g.lists.included g.lists.size in (
-      ready g.op g.a g.b g.ok_a g.ok_b g.lists n (omega arith) (omega arith) (omega (arith, v.ensures.few.0, c.requires.1)),
-      c.fill.ensures v.result.base,
-      balanced g.op g.a g.b g.ok_a g.ok_b g.lists n,
-    )
+    let n = v.ensures.numbered g.op g.a g.b g.lists.of_z_list g.lists.included g.lists.size in
+    ready g.op g.a g.b g.ok_a g.ok_b g.lists n (omega arith) (omega arith) (omega (arith, v.ensures.few.0, c.requires.1))
+
+pub count-triangles-requires-clause-marked : goal.count-triangles-requires-clause-marked
+count-triangles-requires-clause-marked c = c.fill.ensures c.number-n.result.base
+
+pub count-triangles-requires-clause-balanced : goal.count-triangles-requires-clause-balanced
+count-triangles-requires-clause-balanced c =
+    let g = c.requires.0 in
+    let v = c.number-n in
+    let n = v.ensures.numbered g.op g.a g.b g.lists.of_z_list g.lists.included g.lists.size in
+    balanced g.op g.a g.b g.ok_a g.ok_b g.lists n
 
 pub returns : goal.returns
 returns c =
@@ -39,9 +46,9 @@ returns c =
       numbered = λ op a b l. v.ensures.numbered op a b l.of_z_list l.included l.size;
       ready = ready g.op g.a g.b g.ok_a g.ok_b g.lists n (omega arith) (omega arith) (omega (arith, v.ensures.few.0, c.requires.1));
       marked = c.fill.ensures v.result.base;
-      counted = c.count_triangles-triangles.ensures.counted;
+      counted = c.count-triangles.ensures.counted;
       num_long = omega arith;
       marks_long = omega arith;
       few_vertices = v.ensures.few.1;
-      few_triangles = c.count_triangles-triangles.ensures.small;
+      few_triangles = c.count-triangles.ensures.small;
     }

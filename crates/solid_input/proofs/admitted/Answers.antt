@@ -1,17 +1,17 @@
 -- `admitted` meets its contract: 2 by the numbers, or the admission of the fronts.
-use borrow.Author.Tests.{lt-ltb, le-ltb}
+use mathlib.Core.Path.{sym, ◌∙◌}
+use Rattle.solids.specs.Refusals.{on_solid}
+use Rattle.list_words.proofs.Handed.{handed_on}
+use Rattle.solids.proofs.Checks.{not_given, was_given}
 use Rattle.solid_input.specs.Words.{kept_admission}
 use Rattle.solid_input.proofs.admitted.Goals as goal
 
-pub returns-then-w-gt128 : goal.returns-then-w-gt128
+pub returns-in_err-check_sizes : goal.returns-in_err-check_sizes
 unfolding kept_admission
-returns-then-w-gt128 c = rw (lt-ltb _ _ c.if-w-gt128.true)
-
-pub returns-then-w-gt256 : goal.returns-then-w-gt256
-unfolding kept_admission
-returns-then-w-gt256 c = rw (le-ltb _ _ c.if-w-gt128.false, lt-ltb _ _ c.if-w-gt256.true)
+returns-in_err-check_sizes c =
+    let (many, a) = was_given (on_solid 2 0) _ _ (sym c.check_sizes.ensures.said ∙ c.in_err-check_sizes.was) in
+    rw (handed_on c.from_residual.result _ c.from_residual.ensures.1, many, a)
 
 pub returns : goal.returns
 unfolding kept_admission
-returns c =
-    rw (le-ltb _ _ c.if-w-gt128.false, le-ltb _ _ c.if-w-gt256.false) c.admit.ensures
+returns c = rw (not_given (on_solid 2 0) _ (sym c.check_sizes.ensures.said ∙ c.in_ok-check_sizes.was)) c.admit.ensures

@@ -1,15 +1,26 @@
--- `take_in` meets its contract: no letter, or the letter's code and what stands behind it.
-use Prim.Native.Nat.{◌-◌}
-use native.Mathlib.Omega.{arith}
-use lib.Seq.{take_all}
-use lib.ListN.{length, drop, length-drop}
-use Rattle.solid_input.proofs.Letters.{no_letter, at_letter}
+-- `take_in` meets its contract: no letter, an unknown one, too long an input, or the two files.
+use mathlib.Core.Path.{sym, ◌∙◌}
+use Rattle.solid_line.proofs.Enough.{too_long}
+use Rattle.solid_input.proofs.Letters.{not_long, no_letter, at_letter}
 use Rattle.solid_input.proofs.take_in.Goals as goal
 
-pub returns-then-input-eq0 : goal.returns-then-input-eq0
-returns-then-input-eq0 c = no_letter _ (omega (arith, c.if-input-eq0.true))
+pub returns-in_default : goal.returns-in_default
+returns-in_default c = rw c.on_nobody.ensures (no_letter c.args.input.now c.in_default.ensures.cases)
+
+pub returns-in_default-operation_of : goal.returns-in_default-operation_of
+returns-in_default-operation_of c =
+    rw c.on_nobody-in_default-operation_of.ensures
+    (at_letter c.args.input.now c.in-Some.letter.now c.in-Some.files.now _ c.in-Some.ensures.cases.0 (sym c.operation_of.ensures ∙ c.in_default-operation_of.is))
+
+pub returns-then-files-gt32767 : goal.returns-then-files-gt32767
+returns-then-files-gt32767 c =
+    rw c.on_nobody-then-files-gt32767.ensures
+    (at_letter c.args.input.now c.in-Some.letter.now c.in-Some.files.now _ c.in-Some.ensures.cases.0 (sym c.operation_of.ensures ∙ c.in-Some-operation_of.is)
+    ∙ too_long c.in-Some-operation_of.operation c.in-Some.files.now c.if-files-gt32767.true)
 
 pub returns : goal.returns
 returns c =
-    let bs = c.args.input.now in
-    rw (at_letter bs (omega arith), ← c.code_of.ensures, ← take_all (length bs - 1) (drop 1 bs) (rw (length-drop 1 bs) (omega arith))) c.by_code.ensures
+    let op = c.in-Some-operation_of.operation in
+    let bs = c.in-Some.files.now in
+    rw (at_letter c.args.input.now c.in-Some.letter.now bs _ c.in-Some.ensures.cases.0 (sym c.operation_of.ensures ∙ c.in-Some-operation_of.is)
+    ∙ not_long op bs c.if-files-gt32767.false) c.of_bytes.ensures

@@ -3,7 +3,6 @@ use mathlib.Core.Path.{◌≡◌, refl, sym, ap, ◌∙◌}
 use mathlib.Core.Bool.{Bool}
 use mathlib.Core.List.{List, []}
 use Prim.Native.Nat.{ℕ, ◌/◌}
-use native.Mathlib.Omega.{arith}
 use lib.ListN.{length}
 use Rattle.list_words.specs.Lists.{up_to, any}
 use Rattle.solids.specs.Refusals.{on_solid, given, in_order}
@@ -20,17 +19,17 @@ seen cs f b e = ap (given (on_solid 6 f)) (sym e)
 
 pub loop-f-init : goal.loop-f-init
 unfolding in_order up_to
-loop-f-init c = (omega arith, refl)
+loop-f-init c = refl
 
 pub returns-then-facet_differs : goal.returns-then-facet_differs
 returns-then-facet_differs c =
     let cs = c.args.corners.now in
     let f = c.loop-f.f in
-    sym (each_at (check cs) (length cs / 3) f _ c.loop-f-test.true c.loop-f.invariant.1
+    sym (each_at (check cs) (length cs / 3) f _ c.loop-f-test.true c.loop-f.invariant
     (seen cs f _ c.facet_differs.ensures ∙ rw (c.if-facet_differs.true, c.on_solid.ensures)))
 
 pub loop-f-preserved : goal.loop-f-preserved
 loop-f-preserved c =
     let cs = c.args.corners.now in
     let f = c.loop-f.f in
-    (omega arith, each_next (check cs) f c.loop-f.invariant.1 (seen cs f _ c.facet_differs.ensures ∙ rw c.if-facet_differs.false))
+    each_next (check cs) f c.loop-f.invariant (seen cs f _ c.facet_differs.ensures ∙ rw c.if-facet_differs.false)

@@ -1,12 +1,10 @@
 -- `differ` meets its contract: the two counts stand in the table.
-use mathlib.Core.Path.{◌≡◌}
+use mathlib.Core.Path.{◌≡◌, sym}
 use mathlib.Core.Bool.{not}
 use mathlib.Core.List.{List}
 use Prim.Native.Nat.{ℕ, ◌<◌}
 use lib.Dec.{eqb}
 use lib.ListN.{get_or}
-use native.Mathlib.Omega.{arith}
-use borrow.Author.Tests.{eq-eqb, ne_eqb}
 use Rattle.solids.specs.Solids.{Half}
 use Rattle.solids.specs.Admission as Ad
 use Rattle.solids.specs.Words.{place, Tallied}
@@ -19,10 +17,5 @@ numbers :
 unfolding Ad.differ
 numbers table hs p q there back a b t i j = rw (i, j, t.at (p, q) a b, t.at (q, p) b a)
 
-pub returns-then-table-there : goal.returns-then-table-there
-returns-then-table-there c =
-    rw (numbers c.args.table.now _ c.args.p c.args.q _ _ c.requires.0 c.requires.1 c.requires.2 c.place-there.ensures.value c.place-back.ensures.value, eq-eqb _ _ c.if-table-there.true)
-
-pub returns-else-table-there : goal.returns-else-table-there
-returns-else-table-there c =
-    rw (numbers c.args.table.now _ c.args.p c.args.q _ _ c.requires.0 c.requires.1 c.requires.2 c.place-there.ensures.value c.place-back.ensures.value, ne_eqb _ _ c.if-table-there.false)
+pub returns : goal.returns
+returns c = sym (numbers c.args.table.now _ c.args.p c.args.q _ _ c.requires.0 c.requires.1 c.requires.2 c.place.ensures.value c.place-2.ensures.value)

@@ -2,8 +2,6 @@
 use mathlib.Core.Path.{subst}
 use native.Mathlib.Nat.{le_antisymm}
 use Rattle.solids.specs.Solids.{half_edges}
-use Prim.Native.Nat.{◌-◌}
-use native.Mathlib.Omega.{arith}
 use mathlib.Core.List.{flat_map}
 use Rattle.list_words.specs.Lists.{up_to}
 use Rattle.solids.specs.Words.{Tallied, counted}
@@ -11,8 +9,8 @@ use Rattle.tally.proofs.tally.Goals as goal
 
 pub loop-f-init : goal.loop-f-init
 unfolding counted up_to flat_map
-loop-f-init c = (omega arith, c.requires.2)
+loop-f-init c = c.requires.2
 
 pub returns : goal.returns
 unfolding half_edges counted
-returns c = let l = c in let cs = l.args.corners.now in subst (λ n. Tallied l.loop-f.table (counted cs n)) (le_antisymm l.loop-f.invariant.0 c.loop-f-test.false) l.loop-f.invariant.1
+returns c = let l = c in let cs = l.args.corners.now in subst (λ n. Tallied l.loop-f.table (counted cs n)) (le_antisymm l.loop-f.auto.f-end c.loop-f-test.false) l.loop-f.invariant

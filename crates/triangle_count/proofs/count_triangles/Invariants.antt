@@ -1,14 +1,10 @@
 use mathlib.Core.Path.{◌≡◌}
 use mathlib.Core.List.{flat_map}
-use Prim.Native.Nat.{◌-◌, ◌*◌, ◌≤◌}
+use Prim.Native.Nat.{◌*◌, ◌≤◌}
 use lib.ListN.{length}
 use Rattle.list_words.specs.Lists.{up_to}
-use Rattle.vertex_table.specs.Words.{fan_of}
-use Rattle.kept_lists.specs.Words.{rows, dense}
+use Rattle.composite_ends.specs.Words.{fan_of}
 use Rattle.triangle_count.proofs.count_triangles.Given as goal
 
 abbrev pub invariant-loop-x : goal.invariant-loop-x
-invariant-loop-x l = (l.x ≤ l.n) × (l.k ≤ l.x * 3075) × (l.k ≡ length (flat_map (fan_of (dense l.plan.sizes l.inc l.num (rows l.first l.crossed l.plan.base)) l.halves l.plan.sizes) (up_to l.x)))
-
-abbrev pub decreases-loop-x : goal.decreases-loop-x
-decreases-loop-x l = l.n - l.x
+invariant-loop-x l = (l.k ≤ l.x * 3075) × (l.k ≡ length (flat_map (fan_of l.kept) (up_to l.x)))

@@ -1,33 +1,28 @@
 -- `fan_size` meets its contract: all ends are told.
-use mathlib.Core.Path.{◌∙◌}
+use mathlib.Core.Path.{◌≡◌}
 use mathlib.Core.List.{flat_map}
-use Prim.Native.Nat.{◌+◌, ◌*◌}
+use Prim.Native.Nat.{ℕ, ◌+◌, ◌*◌}
 use native.Mathlib.Omega.{arith}
+use lib.ListN.{length}
 use Rattle.list_words.specs.Lists.{up_to}
 use Rattle.vertex_table.specs.Words.{others}
-use Rattle.fan_counts.specs.Words.{tell}
-use Rattle.kept_lists.specs.Words.{rows, line_ends, line_many, side_ends}
+use Rattle.fan_counts.specs.declared.Tally.{Tally}
+use Rattle.fan_counts.specs.Words.{none_yet, tell}
 use Rattle.kept_lists.proofs.Counted.{facet_count}
+use Rattle.composite_ends.specs.declared.Kept.{Kept}
+use Rattle.composite_ends.specs.Words.{Balanced, IsFacet, line_ends_of, side_ends_of, fan_of}
 use Rattle.triangle_count.proofs.fan_size.Goals as goal
+
+told : (k : Kept) (x : ℕ) → Balanced k → IsFacet k.crossings x → {a b c r : Tally} → a ≡ tell none_yet (line_ends_of k (3 * x)) → b ≡ tell a (line_ends_of k (3 * x + 1))
+    → c ≡ tell b (line_ends_of k (3 * x + 2)) → r ≡ tell c (flat_map (side_ends_of k.crossings x) (up_to (others k.crossings.plan.sizes x))) → length (fan_of k x) + r.at ≡ r.pieces
+told k x g h {r = r} ea eb ec er = facet_count k.crossings.named g x h r (rw (ec, eb, ea) at er)
 
 pub overflow_sub-result : goal.overflow_sub-result
 overflow_sub-result c =
     let a = c.args in
-    let z = a.plan.sizes in
-    let w = rows a.first.now a.crossed.now a.plan.base in
-    let e1 = c.tell_line-a.ensures.told in
-    let e2 = c.tell_line-b.ensures.told ∙ (λ j. tell (e1 j) (line_ends a.inc.now a.num.now w a.halves.now z (3 * a.x + 1) (line_many z (3 * a.x + 1)))) in
-    let e3 = c.tell_line-c.ensures.told ∙ (λ j. tell (e2 j) (line_ends a.inc.now a.num.now w a.halves.now z (3 * a.x + 2) (line_many z (3 * a.x + 2)))) in
-    let told = c.tell_row-r.ensures.told ∙ (λ j. tell (e3 j) (flat_map (side_ends w a.halves.now z a.x) (up_to (others z a.x)))) in
-    omega (arith, facet_count c.requires.0.halves c.requires.2 a.x c.requires.3 c.tell_row-r.result told)
+    omega (arith, told a.kept.now a.x c.requires.balanced c.requires.facet c.tell_line-a.ensures.told c.tell_line-b.ensures.told c.tell_line-c.ensures.told c.tell_row-r.ensures.told)
 
 pub returns : goal.returns
 returns c =
     let a = c.args in
-    let z = a.plan.sizes in
-    let w = rows a.first.now a.crossed.now a.plan.base in
-    let e1 = c.tell_line-a.ensures.told in
-    let e2 = c.tell_line-b.ensures.told ∙ (λ j. tell (e1 j) (line_ends a.inc.now a.num.now w a.halves.now z (3 * a.x + 1) (line_many z (3 * a.x + 1)))) in
-    let e3 = c.tell_line-c.ensures.told ∙ (λ j. tell (e2 j) (line_ends a.inc.now a.num.now w a.halves.now z (3 * a.x + 2) (line_many z (3 * a.x + 2)))) in
-    let told = c.tell_row-r.ensures.told ∙ (λ j. tell (e3 j) (flat_map (side_ends w a.halves.now z a.x) (up_to (others z a.x)))) in
-    omega (arith, facet_count c.requires.0.halves c.requires.2 a.x c.requires.3 c.tell_row-r.result told)
+    omega (arith, told a.kept.now a.x c.requires.balanced c.requires.facet c.tell_line-a.ensures.told c.tell_line-b.ensures.told c.tell_line-c.ensures.told c.tell_row-r.ensures.told)

@@ -1,11 +1,7 @@
 use mathlib.Core.Path.{◌≡◌}
-use Prim.Native.Nat.{◌-◌, ◌≤◌}
 use lib.ListN.{length}
 use Rattle.fans.proofs.Numbering.{Numbering}
 use Rattle.fans.proofs.numbers.number.Given as goal
 
 abbrev pub invariant-loop-i : goal.invariant-loop-i
-invariant-loop-i l = (l.i ≤ l.many) × (length l.num ≡ length l.initial.num) × Numbering l.inc l.initial.num l.num l.from l.many l.start l.k l.i
-
-abbrev pub decreases-loop-i : goal.decreases-loop-i
-decreases-loop-i l = l.many - l.i
+invariant-loop-i l = (length l.num ≡ length l.initial.num) × Numbering l.inc l.initial.num l.num l.from l.many l.start l.k l.i

@@ -1,18 +1,25 @@
--- `put_number` meets its contract: the bytes below i are put, and the rest's bytes are left.
+-- `put_number` meets its contract: the bytes below the index are put, and the rest's bytes are left.
 use mathlib.Core.Path.{sym, ◌∙◌}
 use native.Mathlib.Omega.{arith}
+use Prim.Native.Nat.{◌+◌}
 use lib.ListN.{length-set}
-use Rattle.numbers.proofs.Numbers.{left_to_put, all_put}
+use borrow.Rule.Slice.PartMut.{mid_len}
+use Rattle.list_stores.proofs.Stores.{sets_part}
+use Rattle.numbers.specs.Numbers.{bytes}
+use Rattle.numbers.proofs.Numbers.{length_bytes, left_to_put, all_put}
 use Rattle.numbers.proofs.in_bytes.put_number.Goals as goal
 
-pub loop-i-preserved : goal.loop-i-preserved
-loop-i-preserved c =
-    let l = c.loop-i in
+pub loop-byte-preserved : goal.loop-byte-preserved
+loop-byte-preserved c =
+    let l = c.loop-byte in
     let a = c.args in
-    (omega arith, simp length-set l.invariant.1, left_to_put l.bytes a.at a.n l.i l.rest c.loop-i-test.true ∙ l.invariant.2)
+    let long = mid_len a.at (a.at + a.n) a.bytes.now c.requires in
+    record { long = simp length-set l.invariant.long; put = left_to_put l.byte-items a.n l.byte-index l.rest (omega arith) l.invariant.long ∙ l.invariant.put }
 
 pub returns : goal.returns
 returns c =
-    let l = c.loop-i in
+    let l = c.loop-byte in
     let a = c.args in
-    sym (all_put l.bytes a.at a.n l.i l.rest c.loop-i-test.false) ∙ l.invariant.2
+    let long = mid_len a.at (a.at + a.n) a.bytes.now c.requires in
+    rw (sym (all_put l.byte-items a.n l.byte-index l.rest (omega arith) l.invariant.long) ∙ l.invariant.put)
+    (sets_part a.bytes.now (bytes a.n a.number) a.at a.n c.requires (length_bytes a.n a.number))

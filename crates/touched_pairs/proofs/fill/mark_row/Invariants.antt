@@ -1,11 +1,8 @@
 use mathlib.Core.Path.{◌≡◌}
-use Prim.Native.Nat.{◌-◌, ◌≤◌}
+use Prim.Native.Nat.{◌≤◌}
 use lib.ListN.{length, get_or}
 use Rattle.kept_lists.specs.Words.{More, Listed}
 use Rattle.touched_pairs.proofs.fill.mark_row.Given as goal
 
 abbrev pub invariant-loop-k : goal.invariant-loop-k
 invariant-loop-k l = (get_or l.first l.r 0 ≤ l.k) × Listed l.z l.first l.crossed l.marks l.r l.k × More l.initial.marks l.marks × (length l.marks ≡ length l.initial.marks)
-
-abbrev pub decreases-loop-k : goal.decreases-loop-k
-decreases-loop-k l = l.to - l.k

@@ -1,2 +1,0 @@
--- Laws that no one function has to itself.
-mod Blank

@@ -1,2 +1,0 @@
--- What the contracts of the case language cite.
-pub mod Words
