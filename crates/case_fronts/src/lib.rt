@@ -3,6 +3,11 @@
 
 ghost use Rattle.std.specs.Prelude.{◌≡◌, take};
 
+// The lists of a solid that a request brings.
+pub type Coordinates = [f64; 8192];
+
+pub type Corners = [u32; 8192];
+
 pub fn front<T>(list: &[T], n: usize) -> &[T]
     ensures { result.now ≡ take n list.now }
 {

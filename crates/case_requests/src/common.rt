@@ -1,6 +1,6 @@
 // Parts that requests have in common: a solid, a point, the room of an operation.
 use crate::requests::held;
-use case_fronts::front;
+use case_fronts::{Coordinates, Corners, front};
 use case_parts::parts;
 use case_parts::parts::Unread;
 use case_words::input::Words;
@@ -17,9 +17,9 @@ pub struct Held<'a> {
 pub fn solid<'a>(
     words: &mut Words,
     points_name: &[u8],
-    points: &'a mut [f64; 8192],
+    points: &'a mut Coordinates,
     corners_name: &[u8],
-    corners: &'a mut [u32; 8192],
+    corners: &'a mut Corners,
 ) -> Result<Held<'a>, Unread> {
     let n = parts::list(words, points_name, points, parts::coordinate)?;
     let m = parts::list(words, corners_name, corners, parts::corner)?;

@@ -15,7 +15,7 @@ use std::marker::Model;
 // A crossing's count, which is 1, 0 or -1, and y and z of its points on A and on B. A count of 0 is a miss: an Option would ask for a branch where
 // counts are added.
 #[derive(Clone, Copy)]
-struct Slim {
+pub struct Slim {
     n: i32,
     ay: f64,
     by: f64,
@@ -38,7 +38,7 @@ impl Model for Slim {
 
 // The sum of S by y, the first plus and the first minus.
 #[derive(Clone, Copy)]
-struct Sum {
+pub struct Sum {
     n: i32,
     plus: Slim,
     minus: Slim,

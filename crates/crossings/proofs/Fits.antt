@@ -22,6 +22,9 @@ fits z h = record { sfits = let l = mag_le z in omega arith }
 pub fits_sum : (a b : ℤ) → nat_abs a + nat_abs b < 2 ^ 31 → SFits w32 (a +ℤ b)
 fits_sum a b h = fits (a +ℤ b) (omega (arith, bnd_add (nat_abs a) (nat_abs b) a b (le_refl _) (le_refl _)))
 
+pub fits_neg : (n : ℤ) → nat_abs n < 2 ^ 31 → SFits w32 (pos 0 -ℤ n)
+fits_neg n h = fits (pos 0 -ℤ n) (rw (+ℤ_idl (neg_ℤ n)) (omega (arith, bnd_neg (nat_abs n) n (le_refl _))))
+
 pub zero_not : (z : ℤ) → SFits w32 z → of_z w32 z ≡ 0 → nonzero z ≡ false
 zero_not z f h = ap nonzero (sym (to_z-of_z f) ∙ ap (to_z w32) h)
 

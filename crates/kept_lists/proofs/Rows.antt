@@ -1,4 +1,4 @@
--- Looking a column up in a row.
+-- Looking a column up in a row; and what rows promise.
 use mathlib.Core.Path.{◌≡◌, refl}
 use mathlib.Core.Bool.{Bool, true, false}
 use mathlib.Core.List.{List, map}
@@ -6,11 +6,16 @@ use Prim.Native.Nat.{ℕ, suc, ◌+◌, ◌-◌, ◌<◌, ◌≤◌}
 use native.Mathlib.Numerals.{add-one}
 use native.Mathlib.Omega.{arith}
 use borrow.Author.Tests.{eq-eqb, ne_eqb}
-use lib.ListN.{get_or}
+use lib.ListN.{length, get_or}
 use Rattle.results.specs.declared.End.{End}
-use Rattle.layouts.specs.Words.{column}
+use Rattle.layouts.specs.declared.Sizes.{Sizes}
+use Rattle.layouts.specs.Words.{column, Columns}
 use Rattle.vertex_table.specs.Words.{flip}
-use Rattle.kept_lists.specs.Words.{Rows, span, blank, at_place, entry, look}
+use Rattle.kept_lists.specs.Words.{Rows, Crossings, rows, span, blank, at_place, entry, look}
+
+-- lists whose columns are there, with any number for the first crossing
+pub crossings_of : {z : Sizes} {first crossed : List ℕ} → Columns z first crossed → (base : ℕ) → base + length crossed ≤ 1048576 → Crossings z (rows first crossed base)
+crossings_of g base few = record { first_long = g.first_long; within = g.within; few = few }
 
 -- what is left of a row from place k up to `to`
 abbrev pub left : Rows → ℕ → ℕ → List (ℕ × End)

@@ -23,7 +23,7 @@ unfolding column packed
 column_packed c n = omega (arith, code_small n)
 
 -- what the four tests say of an inclusion
-abbrev read : ℕ → ℤ
+abbrev pub read : ℕ → ℤ
 read k = cond (eqb k 3) (pos 2) (cond (eqb k 2) (pos 1) (cond (eqb k 1) (negsuc 0) (negsuc 1)))
 
 read_code : (n : ℤ) → nat_abs n ≤ 2 → nonzero n ≡ true → read (code n) ≡ n
@@ -59,6 +59,15 @@ inclusion_counts x = go (eqb (x % 4) 3) (eqb (x % 4) 2) (eqb (x % 4) 1)
     go false false true = refl
     go false false false = refl
 
--- what a test of an i32 says
+-- ---- the tests of an i32
+
 pub is : {z : ℤ} (k : ℕ) → SFits w32 z → of_z w32 z ≡ k → z ≡ to_z w32 k
 is k f e = sym (to_z-of_z f) ∙ ap (to_z w32) e
+
+pub left_over : (z : ℤ) → nat_abs z ≤ 2 → nonzero z ≡ true → (of_z w32 z ≡ 2 → ⊥) → (of_z w32 z ≡ 1 → ⊥) → (of_z w32 z ≡ of_z w32 (negsuc 0) → ⊥) → code z ≡ 0
+left_over (negsuc (suc n)) h e two one minus = refl
+left_over (negsuc zero) h e two one minus = absurd (minus refl)
+left_over (pos zero) h e two one minus = refl
+left_over (pos (suc zero)) h e two one minus = absurd (one refl)
+left_over (pos (suc (suc zero))) h e two one minus = absurd (two refl)
+left_over (pos (suc (suc (suc n)))) h e two one minus = absurd (omega arith)

@@ -133,6 +133,12 @@ bnd_neg n x h = omega (arith, abs_parts x, abs_parts (neg_ℤ x), above_neg x, b
 pub bnd_zero : Bnd 0 (pos 0)
 bnd_zero = omega arith
 
+pub bnd_one : Bnd 1 (pos 1)
+bnd_one = omega arith
+
+pub bnd_mono : (m n : ℕ) (x : ℤ) → m ≤ n → Bnd m x → Bnd n x
+bnd_mono m n x h b = omega arith
+
 -- a number that is 1, 0 or -1 times another
 pub scaled : (n : ℕ) (c x : ℤ) → Bnd 1 c → Bnd n x → Bnd n (c *ℤ x)
 unfolding one

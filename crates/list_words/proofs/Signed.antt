@@ -80,8 +80,14 @@ module _ {X : Type 0} (up : X × X → Bool) where
   pub sgn_neg : (x : X × X → ℤ) (h : X × X) → sgn up (λ e. neg_ℤ (x e)) h ≡ neg_ℤ (sgn up x h)
   sgn_neg x h = sign_neg (up h) (x (edge up h))
 
+  pub sgn_sub : (x y : X × X → ℤ) (h : X × X) → sgn up (λ e. x e -ℤ y e) h ≡ sgn up x h -ℤ sgn up y h
+  sgn_sub x y h = sgn_add x (λ e. neg_ℤ (y e)) h ∙ ap (λ z. sgn up x h +ℤ z) (sgn_neg y h)
+
   pub sgn_mul : (c : ℤ) (x : X × X → ℤ) (h : X × X) → sgn up (λ e. c *ℤ x e) h ≡ c *ℤ sgn up x h
   sgn_mul c x h = sign_mul (up h) c (x (edge up h))
+
+  pub sgn_edge : (x y : X × X → ℤ) (h : X × X) → sgn up x h *ℤ y (edge up h) ≡ sgn up (λ e. x e *ℤ y e) h
+  sgn_edge x y h = mul_sign (up h) (x (edge up h)) (y (edge up h))
 
   pub sgn_sum : {I : Type 0} (x : I → X × X → ℤ) (l : List I) (h : X × X) → sgn up (λ e. sum_of (λ i. x i e) l) h ≡ sum_of (λ i. sgn up (x i) h) l
   sgn_sum x l h = sign_sum (up h) (λ i. x i (edge up h)) l

@@ -46,6 +46,9 @@ module _ {A : Type 0} where
   pub cond_true : (b : Bool) (x y : A) → b ≡ true → cond b x y ≡ x
   cond_true b x y e = ap (λ c. cond c x y) e
 
+  pub cond_false : (b : Bool) (x y : A) → b ≡ false → cond b x y ≡ y
+  cond_false b x y e = ap (λ c. cond c x y) e
+
 -- where no refusal is given: this check gives none, and those after it give none
 pub passed : (n : ℕ) (b : Bool) (r : ℕ) → cond b (suc n) r ≡ 0 → (b ≡ false) × (r ≡ 0)
 passed n true r h = absurd (omega arith)

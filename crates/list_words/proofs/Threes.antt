@@ -6,9 +6,11 @@ use mathlib.Core.List.{List, [], ◌∷◌, ◌++◌, map, flat_map, map-map}
 use Prim.Native.Nat.{ℕ, zero, suc, ◌+◌, ◌*◌, ◌/◌, ◌%◌, ◌<◌}
 use native.Mathlib.Omega.{arith}
 use lib.ListN.{length, get_or}
-use Rattle.list_words.specs.Lists.{up_to, any}
+use lib.IntN.{ℤ}
+use Rattle.list_words.specs.Lists.{up_to, sum_of, every, any}
 use Rattle.list_words.proofs.Searches.{any_flat_map}
-use Rattle.list_words.proofs.Sums.{All, all_map_of, all_of_map, map_ext, flat_map_map}
+use Rattle.list_words.proofs.Sums.{All, all_map_of, all_of_map, map_ext, flat_map_map, sum_map}
+use Rattle.list_words.proofs.Tests.{every_map}
 use Rattle.list_words.proofs.UpTo.{up_to_first}
 
 abbrev of_three {ℓ} : {A : Type 0} {C : Type ℓ} → (A → A → A → C) → A × A × A → C
@@ -101,6 +103,16 @@ module _ {A B : Type 0} (f g h : B → A) where
         → flat_map (λ i. F (get_or (threes ts) (first i) d) (get_or (threes ts) (3 * i + 1) d) (get_or (threes ts) (3 * i + 2) d)) (up_to (length (threes ts) / 3))
         ≡ flat_map (λ t. F (f t) (g t) (h t)) ts
     flat_threes F = sym (flat_map_map (of_three F) at numbers) ∙ ap (flat_map (of_three F)) all_in_turn ∙ flat_map_map (of_three F) three ts
+
+    pub sum_threes : (F : A → A → A → ℤ)
+        → sum_of (λ i. F (get_or (threes ts) (first i) d) (get_or (threes ts) (3 * i + 1) d) (get_or (threes ts) (3 * i + 2) d)) (up_to (length (threes ts) / 3))
+        ≡ sum_of (λ t. F (f t) (g t) (h t)) ts
+    sum_threes F = sym (sum_map (of_three F) at numbers) ∙ ap (sum_of (of_three F)) all_in_turn ∙ sum_map (of_three F) three ts
+
+    pub every_threes : (F : A → A → A → Bool)
+        → every (λ i. F (get_or (threes ts) (first i) d) (get_or (threes ts) (3 * i + 1) d) (get_or (threes ts) (3 * i + 2) d)) (up_to (length (threes ts) / 3))
+        ≡ every (λ t. F (f t) (g t) (h t)) ts
+    every_threes F = sym (every_map (of_three F) at numbers) ∙ ap (every (of_three F)) all_in_turn ∙ every_map (of_three F) three ts
 
     pub all_threes : (P : A → A → A → Type 0) → All (λ t. P (f t) (g t) (h t)) ts
         → All (λ i. P (get_or (threes ts) (first i) d) (get_or (threes ts) (3 * i + 1) d) (get_or (threes ts) (3 * i + 2) d)) (up_to (length (threes ts) / 3))

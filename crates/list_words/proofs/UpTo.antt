@@ -65,6 +65,9 @@ unfolding up_to
 all_up_to p zero f = tt
 all_up_to p (suc n) f = all-++ p (up_to n) (n ∷ []) (all_up_to p n (λ i h. f i (omega arith))) (f n (omega arith), tt)
 
+pub lt_up_to : {i : ℕ} (n : ℕ) → Memᴰ i (up_to n) → i < n
+lt_up_to n m = all_at (λ i. i < n) m (all_up_to (λ i. i < n) n (λ i h. h))
+
 pub mem_up_to : (n i : ℕ) → i < n → Memᴰ i (up_to n)
 unfolding up_to
 mem_up_to zero i h = absurd (omega arith)

@@ -144,6 +144,9 @@ module _ (l : List ℕ) (at : ℕ) where
             absurd (omega arith)
       ]
 
+      pub first_small : at + first < 64 * (at / 64) + 64
+      first_small = omega (arith, inside)
+
       clear_first : Clear l from end (at + first)
       clear_first = clear_to first (omega (arith, inside)) (λ d h. tz_even 64 rest_of d h)
 

@@ -8,7 +8,7 @@ use native.Mathlib.Omega.{arith}
 use lib.Dec.{lit<}
 use lib.ListN.{length, set, take, drop, length-drop, length-append}
 use Rattle.std.proofs.lemmas.List.{take_more_set}
-use lib.Seq.{take_all, take_at, drop_at, take-append-le, drop-append-le, length-take-le}
+use lib.Seq.{sets, take_all, take_at, drop_at, take-append-le, drop-append-le, length-take-le}
 use lib.Ieee.{Float, nan, inf, fin, binary64, of_bits, to_bits, is_nan, div}
 use lib.Ieee.Bits.{of_bits-to_bits, to_bits-lt, of_bits-fits, to_bits-of_bits}
 use Rattle.list_words.proofs.Sums.{All, all_take, all_drop}
@@ -87,7 +87,7 @@ bytes_at i n bs a h =
     (bytes_number (take n (drop i bs)) (all_take Byte n (drop i bs) (all_drop Byte i bs a)))
 
 -- up to 8 bytes
-fits_8 : (n : ℕ) {k : ℕ} → n ≤ 8 → k < 256 ^ n → k < 2 ^ 64
+pub fits_8 : (n : ℕ) {k : ℕ} → n ≤ 8 → k < 256 ^ n → k < 2 ^ 64
 fits_8 n {k} h l = lt_of_lt_of_le l (pow-le-pow_right (lit< tt) h)
 
 -- ---- read from the last byte to the first
@@ -137,6 +137,20 @@ module _ (at n : ℕ) (bs : List ℕ) where
   read_all (b ∷ l) r e = absurd (omega arith)
 
 -- ---- stored from the first byte to the last: what is left to store
+-- in a list of any length, from place at on
+module _ (l : List ℕ) (at n i rest : ℕ) where
+  pub left_to_store : i < n → sets (set l (at + i) (rest % 256)) (at + (i + 1)) (bytes (n - (i + 1)) (rest / 256)) ≡ sets l (at + i) (bytes (n - i) rest)
+  unfolding bytes
+  left_to_store h =
+      let e : n - i ≡ suc (n - (i + 1)) = omega arith in
+      let f : at + (i + 1) ≡ suc (at + i) = omega arith in
+      rw (e, f)
+
+  pub all_stored : n ≤ i → sets l (at + i) (bytes (n - i) rest) ≡ l
+  unfolding bytes
+  all_stored h = let e : n - i ≡ 0 = omega arith in rw e
+
+-- in a part of n bytes
 pub left_to_put : (l : List ℕ) (n i rest : ℕ) → i < n → length l ≡ n
     → take (i + 1) (set l i (rest % 256)) ++ bytes (n - (i + 1)) (rest / 256) ≡ take i l ++ bytes (n - i) rest
 unfolding bytes

@@ -71,6 +71,9 @@ box_held low high t p m a b =
 abbrev pub Anywhere : Point → Type 0
 Anywhere v = Unit {0}
 
+pub anywhere_held : Held Anywhere
+anywhere_held t p m a b = tt
+
 -- ---- a pair of points: A's in P, B's in Q
 abbrev pub PairIn : (Point → Type 0) → (Point → Type 0) → PointPair → Type 0
 PairIn P Q w = P w.a × Q w.b

@@ -172,3 +172,9 @@ fails_right x y z h k = go (le x y) refl
     go : (w : Bool) → le x y ≡ w → w ≡ false
     go true e = absurd (never (le x z) (le_trans x y z e h) k)
     go false e = refl
+
+pub lt_le_trans : (x y z : Float) → lt x y ≡ true → le y z ≡ true → lt x z ≡ true
+lt_le_trans x y z h k = not_le x z (left_number x y (le_of_lt x y h)) (right_number y z k) (fails y z x k (lt_not x y h))
+
+pub le_lt_trans : (x y z : Float) → le x y ≡ true → lt y z ≡ true → lt x z ≡ true
+le_lt_trans x y z h k = not_le x z (left_number x y h) (right_number y z (le_of_lt y z k)) (fails_right z x y h (lt_not y z k))
