@@ -1,13 +1,14 @@
--- Runs of stores: one run behind another, and runs of one length, one for each turn of a loop.
-use mathlib.Core.Path.{◌≡◌, sym, ap, ap₂, ◌∙◌}
+-- Runs of stores: one run behind another, runs of one length, one for each turn of a loop, and what is left to store at each turn. So a loop's list, with what
+-- is left stored into it, is the list that the whole run gives.
+use mathlib.Core.Path.{◌≡◌, refl, sym, ap, ap₂, ◌∙◌}
 use mathlib.Core.List.{List, [], ◌∷◌, ◌++◌, append_assoc, flat_map}
-use Prim.Native.Nat.{ℕ, zero, suc, ◌+◌, ◌*◌, ◌-◌, ◌≤◌}
+use Prim.Native.Nat.{ℕ, zero, suc, ◌+◌, ◌*◌, ◌-◌, ◌<◌, ◌≤◌}
 use native.Mathlib.Nat.{add-zero, zero-add, mul-zero, mul-suc}
 use native.Mathlib.Numerals.{add-one}
 use native.Mathlib.Omega.{arith}
-use lib.ListN.{take, length, set, drop, length-append}
+use lib.ListN.{take, length, get_or, set, drop, length-set, length-append, drop_of_length-le}
 use borrow.Rule.Slice.PartMut.{put_mid, Post-is}
-use lib.Seq.{sets, sets-eq}
+use lib.Seq.{sets, sets-eq, drop-cons}
 use Rattle.list_words.specs.Lists.{up_to, onto}
 use Rattle.list_words.proofs.UpTo.{flat_up_to_suc}
 
@@ -43,6 +44,13 @@ module _ {A : Type 0} where
       → sets (sets (sets (sets l at m) i a) j b) k c ≡ sets l at (m ++ (a ++ (b ++ c)))
   sets_four l at i j k m a b c e f g = sets_three (sets l at m) i j k a b c f g ∙ rw (← e) (sets_append l at m (a ++ (b ++ c)))
 
+  -- three stores
+  pub three_stores : (l : List A) (at : ℕ) (a b c : A) → set (set (set l at a) (at + 1) b) (at + 2) c ≡ sets l at (a ∷ b ∷ c ∷ [])
+  three_stores l at a b c = rw (add-one at, two at)
+    where
+      two : (n : ℕ) → n + 2 ≡ suc (suc n)
+      two n = omega arith
+
   -- ---- runs of one length, one for each number
   module _ (g : ℕ → List A) (k : ℕ) (even : (i : ℕ) → length (g i) ≡ k) where
     pub length_run : (n : ℕ) → length (flat_map g (up_to n)) ≡ k * n
@@ -54,3 +62,23 @@ module _ {A : Type 0} where
 
     pub run_next : (l : List A) (at n : ℕ) → sets (sets l at (flat_map g (up_to n))) (at + k * n) (g n) ≡ sets l at (flat_map g (up_to (n + 1)))
     run_next l at n = rw (add-one n, flat_up_to_suc g n, ← length_run n) (sets_append l at (flat_map g (up_to n)) (g n))
+
+  -- ---- a list that is copied, element by element: those below i are there, and storing the others gives the whole copy
+  pub record Copied (from old new : List A) (i : ℕ) : Type 0 where
+    pub within : i ≤ length from
+    pub long : length new ≡ length old
+    pub left : sets new i (drop i from) ≡ sets old 0 from
+
+  pub copied_none : (from old : List A) → Copied from old old 0
+  copied_none from old = record { within = omega arith; long = refl; left = refl }
+
+  module _ {from old new : List A} {i : ℕ} (g : Copied from old new i) where
+    pub copied_next : (d : A) → i < length from → Copied from old (set new i (get_or from i d)) (i + 1)
+    copied_next d h = record {
+      within = omega arith;
+      long = length-set new i (get_or from i d) ∙ g.long;
+      left = rw (add-one i) (ap (sets new i) (sym (drop-cons from i d h)) ∙ g.left);
+    }
+
+    pub copied_all : length from ≤ i → length from ≤ length old → new ≡ onto from old
+    copied_all h k = ap (sets new i) (sym (drop_of_length-le from h)) ∙ g.left ∙ sets_onto old from k
