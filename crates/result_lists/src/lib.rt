@@ -52,7 +52,7 @@ fn lay_points(
     result_points::put_points(z, ready_a, ready_b, inc, first, crossed, points);
 }
 
-// Its triangles with their origins, and how many they are.
+// Its triangles with their origins, and how many they are. `list` is for one boundary.
 // A function of its own, as `count` of crates/result_sizes: a struct of references is built of references at one lifetime.
 fn lay_triangles<'a>(
     plan: Plan,
@@ -62,11 +62,13 @@ fn lay_triangles<'a>(
     crossed: &'a [u32],
     halves: &'a [u32],
     marks: &'a [u64],
+    list: &mut [u32],
     corners: &mut [u32],
     origins: &mut [u32],
 ) -> usize
     requires ready { K.Ready halves.now plan.sizes inc.now num.now (K.rows first.now crossed.now plan.base) }
     requires marked { K.Marked halves.now plan.sizes (K.rows first.now crossed.now plan.base) marks.now }
+    requires room { 6150 ≤ length list.old }
     ensures { Laid (T.triangles (K.dense plan.sizes inc.now num.now (K.rows first.now crossed.now plan.base)) halves.now plan.sizes) corners.old origins.old 0 corners.new origins.new result }
 {
     let crossings = Crossed {
@@ -81,8 +83,7 @@ fn lay_triangles<'a>(
         num,
         marks,
     };
-    let mut list = [0u32; 6150];
-    result_triangles::put_triangles(&kept, &mut list, corners, origins)
+    result_triangles::put_triangles(&kept, list, corners, origins)
 }
 
 // The operation on admitted solids, with a list for their crossings.
@@ -126,8 +127,9 @@ pub fn attempt(
         return Ok(Made::from(Refusal::TooShort.on_nobody()));
     }
     lay_points(z, a, b, &ends, &inc, &first, crossed, points);
+    let mut list = [0u32; 6150];
     lay_triangles(
-        plan, &inc, &num, &first, crossed, halves, &marks, corners, origins,
+        plan, &inc, &num, &first, crossed, halves, &marks, &mut list, corners, origins,
     );
     Ok(Made {
         answer: Answer::SUCCESS,
