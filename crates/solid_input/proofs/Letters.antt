@@ -10,6 +10,7 @@ use Rattle.std.specs.Prelude.{Option, Some}
 use Rattle.results.specs.Operation.{refusal}
 use Rattle.solid_line.specs.Line.{letter, room, by_letter, program}
 use Rattle.solid_input.specs.Words.{of_bytes}
+use Rattle.solids.specs.declared.Answer.{Answer}
 use Rattle.solids.specs.Refusals.{answer_of}
 
 -- ---- the length
@@ -26,3 +27,7 @@ no_letter (b ∷ bs) e = absurd (omega arith)
 pub at_letter : (input : List ℕ) (c : ℕ) (bs : List ℕ) (l : Option Operation) → input ≡ c ∷ bs → letter c ≡ l → program input ≡ by_letter l bs
 unfolding program
 at_letter input c bs l e k = ap program e ∙ ap (λ o. by_letter o bs) k
+
+-- a refusal is told by its answer's three numbers
+pub refused_so : (a b : Answer) → a.number ≡ b.number → a.who ≡ b.who → a.place ≡ b.place → refusal a room ≡ refusal b room
+refused_so a b n w p = ap (λ r. refusal r room) (λ i. record { number = n i; who = w i; place = p i })

@@ -30,7 +30,7 @@ pub returns-then-used-second : goal.returns-then-used-second
 returns-then-used-second c =
     rw c.on_nobody-then-used-second.ensures
     (trailing c.args.operation c.args.bytes.now c.in-Some.first c.scan.new.points c.scan.new.corners c.in-Some.ensures.scanned
-    c.in-Some-scan.second c.scan-2.new.points c.scan-2.new.corners c.in-Some-scan.ensures.scanned c.if-used-second.true)
+    c.in-Some-scan.second c.scan-2.new.points c.scan-2.new.corners c.in-Some-scan.ensures.scanned (omega arith))
 
 pub returns : goal.returns
 returns c =
@@ -38,5 +38,5 @@ returns c =
     let g = c.scan-2 in
     rw c.of_walks.ensures
     (both_found c.args.operation c.args.bytes.now c.in-Some.first f.new.points f.new.corners c.in-Some.ensures.scanned
-    c.in-Some-scan.second g.new.points g.new.corners c.in-Some-scan.ensures.scanned c.if-used-second.false
+    c.in-Some-scan.second g.new.points g.new.corners c.in-Some-scan.ensures.scanned (omega arith)
     (f.ensures.points_len.0, f.ensures.points_len.1, g.ensures.points_len.0, g.ensures.points_len.1))
