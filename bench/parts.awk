@@ -16,11 +16,10 @@ BEGIN {
     part("clearing the lists of crossings", "")
     part("crossings found, with boxes", "crossings_found::find_kind")
     part("inclusions of vertices", "inclusions::include_side")
-    part("numbers, marks by edge", "")
-    part("marks by facet", "touched_pairs::fill::mark_half")
-    part("triangles counted", "triangle_count::tell_line triangle_count::tell_pair")
+    part("numbers, marks by edge and by facet", "")
+    part("triangles counted", "triangle_count::tell_line composite_ends::Crossed::pair_ends")
     part("writing of the points", "")
-    part("pieces and triangles, written", "edge_pieces::half_pieces facet_pieces::pair_pieces result_triangles::boundary::row")
+    part("pieces and triangles, written", "edge_pieces::half_pieces composite_ends::Crossed::pair_ends result_triangles::boundary::row")
     operation = "measured_" side
     FS = "/"
 }
