@@ -41,7 +41,7 @@
    No call keeps anything from one time to the next, takes memory from the heap, or looks at errno,
    the locale or a file: calls in several threads do not meet. An operation takes up to 1.0 million
    bytes of stack, and 0.2 million where at most 2,048 pairs of an edge and a facet cross: measured
-   (tests/c/stack.c paints the stack, makes the call and looks how far it wrote; 956,696 and 169,976
+   (tests/c/stack.c paints the stack, makes the call and looks how far it wrote; 956,840 and 170,056
    bytes as the kit compiles it), and bounded by no proof. See to it in threads with a small one.
    The floating-point environment is to be C's own at the start of a program (round to nearest,
    subnormal numbers kept). */
